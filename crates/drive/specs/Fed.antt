@@ -1,5 +1,5 @@
 -- Inside this crate alone: what the feed's run does to all that it is lent.
-use Rattle.std.specs.Prelude.{◌≡◌, ◌≢◌, ◌⊎◌, ◌≤◌, List}
+use Rattle.std.specs.Prelude.{◌≡◌, ◌≢◌, ◌⊎◌, ◌≤◌, List, length}
 use mathlib.Core.List.{IsPrefix}
 use Rattle.outside.specs.Faults.{DeviceState, Rose}
 use Rattle.outside.specs.Sink.{Written}
@@ -8,6 +8,7 @@ use Rattle.outside.specs.declared.pace.PaceCall.{PaceCall}
 use Rattle.demand_feed.specs.declared.run.FeedEnd.TheVariants.{SinkFault, SourceFault}
 use Rattle.mapper.specs.Feeding.{IsFeed}
 use Rattle.mapper.specs.Feeds.{AreFeeds, HasMerged}
+use Rattle.mapper.specs.Notes.{AreTold}
 use Rattle.mapper.specs.Scenes.{Scene, scene}
 use Rattle.drive.specs.declared.loan.FeedLoan.{FeedLoan}
 use Rattle.drive.specs.declared.loan.TakerLoan.{TakerLoan}
@@ -24,7 +25,7 @@ pub record IsSame {J S K M : Type 0} (a b : FeedLoan J S K M) : Type 0 where
 abbrev pub feed_scene : {J S K M : Type 0} → (K → DeviceState Written) → (M → DeviceState (List PaceCall)) → FeedLoan J S K M → Scene
 feed_scene told paced a = scene a.mapper.now.newest a.mapper.now.history (told a.out.now).past (told a.maps.now).past (paced a.pace.now).past
 
--- the feed was run to its end
+-- The feed was run to its end. Where one version alone was published before it, the row of notes tells of each at the end, unless an output failed.
 pub record IsFedBy {J S K M : Type 0} (fed : S → DeviceState Fed) (told : K → DeviceState Written) (paced : M → DeviceState (List PaceCall)) (a b : FeedLoan J S K M) : Type 0 where
   pub same : IsSame a b
   pub run : IsFeed a.mapper.now.newest.plan a.turns b.end (fed a.feed.now).past (fed b.feed.now).past (feed_scene told paced a) (feed_scene told paced b)
@@ -34,6 +35,7 @@ pub record IsFedBy {J S K M : Type 0} (fed : S → DeviceState Fed) (told : K �
   pub sink_stays : b.end ≢ SinkFault → ((told b.out.now).faults ≡ (told a.out.now).faults) × ((told b.maps.now).faults ≡ (told a.maps.now).faults)
   pub source : b.end ≡ SourceFault → Rose (fed a.feed.now).faults (fed b.feed.now).faults
   pub source_stays : b.end ≢ SourceFault → (fed b.feed.now).faults ≡ (fed a.feed.now).faults
+  pub announced : length a.mapper.now.history ≡ 1 → b.end ≢ SinkFault → AreTold b.mapper.now.history b.told
 
 -- the same things are lent
 pub record IsSameTaker {J N K M : Type 0} (a b : TakerLoan J N K M) : Type 0 where
@@ -57,3 +59,4 @@ pub record AreWorked {J N K M : Type 0} (told : K → DeviceState Written) (pace
   pub later : ((told a.out.now).faults ≤ (told b.out.now).faults) × ((told a.maps.now).faults ≤ (told b.maps.now).faults)
   pub sink : b.end ≡ SinkFault → Rose (told a.out.now).faults (told b.out.now).faults ⊎ Rose (told a.maps.now).faults (told b.maps.now).faults
   pub sink_stays : b.end ≢ SinkFault → ((told b.out.now).faults ≡ (told a.out.now).faults) × ((told b.maps.now).faults ≡ (told a.maps.now).faults)
+  pub announced : length a.mapper.now.history ≡ 1 → b.end ≢ SinkFault → AreTold b.mapper.now.history b.told

@@ -1,7 +1,5 @@
 -- What is told at one moment by all that a drive is lent, and what that is for a worker.
-use Rattle.std.specs.Prelude.{◌≡◌, ℕ, ◌-◌, List, Option, Some, map}
-use Rattle.std.specs.List.{range_with_len}
-use Rattle.outside.specs.Limits.{most_notes}
+use Rattle.std.specs.Prelude.{◌≡◌, ℕ, List, Option, Some, map}
 use Rattle.outside.specs.Notes.{NotesTold}
 use Rattle.outside.specs.Sink.{Written}
 use Rattle.outside.specs.Source.{Fed}
@@ -26,21 +24,12 @@ eyes_at viewer lane = record {
   faults = lane.door_faults;
 }
 
--- the notes of a row of which none was given
-abbrev pub all_notes : Option NotesTold
-all_notes = Some (record { coming = range_with_len 0 most_notes; nones = 0 })
-
--- the notes of a row behind so many that were given
-abbrev pub notes_behind : ℕ → ℕ → Option NotesTold
-notes_behind given nones =
-    Some (record { coming = range_with_len given (most_notes - given); nones = nones })
-
--- a lane and its worker's viewer, with notes and the number of the next datagram
-abbrev pub moment_at : LaneTold → ViewerState → Option NotesTold → ℕ → Moment Version
+-- a lane and its worker's viewer, with what its notes tell and the number of the next datagram
+abbrev pub moment_at : LaneTold → ViewerState → NotesTold → ℕ → Moment Version
 moment_at lane viewer notes count = record {
   port = lane.port;
   gate = lane.gate;
-  notes = notes;
+  notes = Some notes;
   eyes = eyes_at viewer lane;
   count = count;
   port_faults = lane.port_faults;
@@ -48,11 +37,11 @@ moment_at lane viewer notes count = record {
 }
 
 -- the same of a lane for conversations, none of which has begun
-abbrev pub stream_moment_at : StreamLaneTold → ViewerState → Option NotesTold → ℕ → StreamMoment Version
+abbrev pub stream_moment_at : StreamLaneTold → ViewerState → NotesTold → ℕ → StreamMoment Version
 stream_moment_at lane viewer notes count = record {
   streams = lane.port;
   gate = lane.gate;
-  notes = notes;
+  notes = Some notes;
   eyes = eyes_at viewer lane;
   count = count;
   stream_faults = lane.port_faults;

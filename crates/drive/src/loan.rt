@@ -8,13 +8,13 @@ use crate::start_signal::StartSignal;
 use demand_feed::FeedEnd;
 use feed_queue::{Feeder, Numbers, Taker};
 use map_cell::{Naming, Note, NoteRow};
-use mapper::Mapper;
+use mapper::{Mapper, Outputs, Told};
 use outside::{Pace, Sink, Source};
 use std::sync::{Arc, Wait};
 use topology_text::Topology;
 
-/// What the mapper's side is lent: the mapper, the feed, both outputs and the pace; and the number of turns, and how the
-/// feed ended.
+/// What the mapper's side is lent: the mapper, the feed, both outputs and the pace; and the number of turns, how the feed
+/// ended, and of how many maps the row of notes told then.
 #[derive(Drop)]
 pub(crate) struct FeedLoan<'x, 'f, 'o, 'm, 'p, J: Naming, S, K, M> {
     pub mapper: &'x mut Mapper<J>,
@@ -24,6 +24,7 @@ pub(crate) struct FeedLoan<'x, 'f, 'o, 'm, 'p, J: Naming, S, K, M> {
     pub pace: &'p mut M,
     pub turns: u64,
     pub end: FeedEnd,
+    pub told: Told,
 }
 
 /// What both sides are lent: the mapper's, and the lanes that have workers.
@@ -57,9 +58,18 @@ impl<J: Naming, S: Source, K: Sink, M: Pace> Feeds<NoteRow<J>>
     ghost fed = { λ a b. IsFedBy S.told K.told M.told a b };
 
     fn run_feed<R: Wait>(&mut self, rt: &R, row: &NoteRow<J>) {
-        self.end = self.mapper.run_feed(
-            rt, self.feed, self.out, self.maps, self.pace, row, self.turns,
-        );
+        let mut told = Told::of_none();
+        told.tell(rt, row, self.note());
+        let mut to = Outputs {
+            out: self.out,
+            maps: self.maps,
+            pace: self.pace,
+            told,
+        };
+        self.end = self
+            .mapper
+            .run_feed(rt, self.feed, &mut to, row, self.turns);
+        self.told = to.told;
     }
 }
 
@@ -106,7 +116,7 @@ impl<N: Numbers, S: Source> Sends<Desk, Feeder<N>> for S {
 }
 
 /// What the mapper's side is lent where several feeders read: the mapper, who takes what they send, both outputs and the
-/// pace; and how the feeds ended.
+/// pace; and how the feeds ended, and of how many maps the row of notes told then.
 #[derive(Drop)]
 pub(crate) struct TakerLoan<'x, 't, 'o, 'm, 'p, J: Naming, N: Numbers, K, M> {
     pub mapper: &'x mut Mapper<J>,
@@ -115,6 +125,7 @@ pub(crate) struct TakerLoan<'x, 't, 'o, 'm, 'p, J: Naming, N: Numbers, K, M> {
     pub maps: &'m mut K,
     pub pace: &'p mut M,
     pub end: FeedEnd,
+    pub told: Told,
 }
 
 impl<J: Naming, N: Numbers, K, M> TakerLoan<'_, '_, '_, '_, '_, J, N, K, M> {
@@ -142,8 +153,15 @@ impl<J: Naming, N: Numbers, K: Sink, M: Pace> Feeds<NoteRow<J>>
     ghost fed = { λ a b. AreWorked K.told M.told a b };
 
     fn run_feed<R: Wait>(&mut self, rt: &R, row: &NoteRow<J>) {
-        self.end = self
-            .mapper
-            .run_feeds(rt, self.taker, self.out, self.maps, self.pace, row);
+        let mut told = Told::of_none();
+        told.tell(rt, row, self.note());
+        let mut to = Outputs {
+            out: self.out,
+            maps: self.maps,
+            pace: self.pace,
+            told,
+        };
+        self.end = self.mapper.run_feeds(rt, self.taker, &mut to, row);
+        self.told = to.told;
     }
 }

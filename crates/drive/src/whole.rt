@@ -6,6 +6,7 @@ ghost use Rattle.demand_feed.specs.declared.limits.TheConstants.{MOST_TURNS};
 ghost use Rattle.published_map.specs.Version.{Version};
 ghost use Rattle.map_cell.specs.Histories.{IsHistory};
 ghost use Rattle.lane_model.specs.declared.ended.Ended.{Ended};
+ghost use Rattle.mapper.specs.Notes.{AreTold};
 ghost use Rattle.drive.specs.AllDone.{AllHeld, AreServed, IsAtFirst, IsFresh};
 ghost use Rattle.drive.specs.Counted.{AreCounted};
 ghost use Rattle.drive.specs.All.{AllRan};
@@ -29,7 +30,7 @@ use demand_feed::FeedEnd;
 use feed_queue::{Feeder, Numbers};
 use lane_model::Ended;
 use map_cell::{Door, MOST_VIEWERS, Naming, Note, NoteRow, Viewer};
-use mapper::Mapper;
+use mapper::{Mapper, Told};
 use name_workers::Worker;
 use no_memory::NoMemory;
 use outside::{Gate, Pace, Port, Sink, Source, Streams};
@@ -47,6 +48,9 @@ pub struct DriveEnd {
     pub lanes: [Option<Ended>; MOST_VIEWERS],
     /// How the lane for conversations ended, if it had a viewer.
     pub stream: Option<Ended>,
+    /// Of how many maps, from the first one on, the lanes were told at the end: the row of notes, which all of them read,
+    /// holds a note of each.
+    pub told: Told,
 }
 
 /// A worker for each viewer, numbered from 0 on, of so many turns.
@@ -303,9 +307,10 @@ fn drive_one<
     ensures keeps { IsSameLent lent.old lent.new }
     ensures driven { (ends : List Ended) × (length ends ≡ vec_len works.lanes)
         × AreEnds ends result.lanes
-        × IsDriven lent.old.turns mapper.newest result.feed ends result.stream
+        × (d : IsDriven lent.old.turns mapper.newest result.feed ends result.stream
         (lent_of S.told T.told K.told M.told lent.old stream.old)
-        (lent_of S.told T.told K.told M.told lent.new stream.new) }
+        (lent_of S.told T.told K.told M.told lent.new stream.new))
+        × (result.feed ≢ FeedEnd.SinkFault → AreTold (mapper.newest ∷ d.rest) result.told) }
     ensures untouched { drop (vec_len works.lanes) lent.new.lanes.now ≡ drop
         (vec_len works.lanes) lent.old.lanes.now }
     ensures stream { length (option_to_list result.stream) ≡ length
@@ -319,6 +324,7 @@ fn drive_one<
     let _ = mapper.newest();
     let mut works = works;
     let count = works.lanes.len();
+    let of_none = Told::of_none();
     let lanes = &mut *lent.lanes;
     let (served, _behind) = lanes.split_at_mut(count);
     let mut loan = Loan {
@@ -330,16 +336,19 @@ fn drive_one<
             pace: lent.pace,
             turns: lent.turns,
             end: FeedEnd::Ended,
+            told: of_none,
         },
         lanes: served,
     };
     serve_all(rt, &mut works, &mut loan, stream);
     let end = loan.side.end;
+    let told = loan.side.told;
     mapper.close(rt);
     DriveEnd {
         feed: end,
         lanes: ends_of(&works.lanes),
         stream: end_of(&works.stream),
+        told,
     }
 }
 
@@ -377,9 +386,10 @@ fn drive_several<
     ensures keeps { IsSameLent lent.old lent.new }
     ensures driven { (ends : List Ended) × (length ends ≡ vec_len works.lanes)
         × AreEnds ends result.lanes
-        × IsDriven lent.old.turns mapper.newest result.feed ends result.stream
+        × (d : IsDriven lent.old.turns mapper.newest result.feed ends result.stream
         (lent_of S.told T.told K.told M.told lent.old stream.old)
-        (lent_of S.told T.told K.told M.told lent.new stream.new) }
+        (lent_of S.told T.told K.told M.told lent.new stream.new))
+        × (result.feed ≢ FeedEnd.SinkFault → AreTold (mapper.newest ∷ d.rest) result.told) }
     ensures untouched { drop (vec_len works.lanes) lent.new.lanes.now ≡ drop
         (vec_len works.lanes) lent.old.lanes.now }
     ensures stream { length (option_to_list result.stream) ≡ length
@@ -402,6 +412,7 @@ fn drive_several<
     let mut feeders = feeders;
     let mut taker = taker;
     let count = works.lanes.len();
+    let of_none = Told::of_none();
     let lanes = &mut *lent.lanes;
     let (served, _behind) = lanes.split_at_mut(count);
     let more = &mut *lent.more;
@@ -420,17 +431,20 @@ fn drive_several<
             maps: lent.maps,
             pace: lent.pace,
             end: FeedEnd::Ended,
+            told: of_none,
         },
         lanes: served,
     };
     serve_several(rt, &mut works, &mut loan, stream);
     let ended = loan.side.end;
+    let told = loan.side.told;
     all_back(&mut taker, first, feeders);
     mapper.close(rt);
     DriveEnd {
         feed: ended,
         lanes: ends_of(&works.lanes),
         stream: end_of(&works.stream),
+        told,
     }
 }
 
@@ -468,9 +482,10 @@ fn drive_with<
     ensures keeps { IsSameLent lent.old lent.new }
     ensures driven { IfOk result (λ r. (ends : List Ended)
         × (length ends ≡ vec_len works.lanes) × AreEnds ends r.lanes
-        × IsDriven lent.old.turns mapper.newest r.feed ends r.stream
+        × (d : IsDriven lent.old.turns mapper.newest r.feed ends r.stream
         (lent_of S.told T.told K.told M.told lent.old stream.old)
-        (lent_of S.told T.told K.told M.told lent.new stream.new)) }
+        (lent_of S.told T.told K.told M.told lent.new stream.new))
+        × (r.feed ≢ FeedEnd.SinkFault → AreTold (mapper.newest ∷ d.rest) r.told)) }
     ensures untouched { drop (vec_len works.lanes) lent.new.lanes.now ≡ drop
         (vec_len works.lanes) lent.old.lanes.now }
     ensures stream { IfOk result
@@ -554,9 +569,10 @@ pub fn drive<
     ensures keeps { IsSameLent lent.old lent.new }
     ensures driven { IfOk result (λ r. (ends : List Ended) × (length ends ≡ vec_len crew.viewers)
         × AreEnds ends r.lanes
-        × IsDriven lent.old.turns crew.mapper.newest r.feed ends r.stream
+        × (d : IsDriven lent.old.turns crew.mapper.newest r.feed ends r.stream
         (lent_of S.told T.told K.told M.told lent.old stream.old)
-        (lent_of S.told T.told K.told M.told lent.new stream.new)) }
+        (lent_of S.told T.told K.told M.told lent.new stream.new))
+        × (r.feed ≢ FeedEnd.SinkFault → AreTold (crew.mapper.newest ∷ d.rest) r.told)) }
     ensures untouched { drop (vec_len crew.viewers) lent.new.lanes.now ≡ drop
         (vec_len crew.viewers) lent.old.lanes.now }
     ensures stream { IfOk result

@@ -4,6 +4,7 @@ use Rattle.drive.specs.Done.{LaneTold, StreamLaneTold}
 use Rattle.drive.specs.Feeds.{FeedTold}
 use Rattle.glb.specs.Told.{Surroundings, stage, surroundings}
 use Rattle.past_log.specs.Gate.{new_gate}
+use Rattle.past_log.specs.Notes.{no_notes}
 use Rattle.past_log.specs.Pace.{new_pace}
 use Rattle.past_log.specs.Port.{new_port}
 use Rattle.past_log.specs.Sink.{new_sink}
@@ -12,11 +13,11 @@ use Rattle.past_log.specs.Streams.{new_streams}
 
 -- a lane of which nothing was asked
 abbrev pub new_lane : LaneTold
-new_lane = record { port = Some new_port; port_faults = 0; gate = Some new_gate; gate_faults = 0; asked = 0; looks = 0; greatest = 0; door_faults = 0; noted = 0 }
+new_lane = record { port = Some new_port; port_faults = 0; gate = Some new_gate; gate_faults = 0; asked = 0; looks = 0; greatest = 0; door_faults = 0; notes = no_notes }
 
 -- a lane for conversations of which nothing was asked
 abbrev pub new_stream_lane : StreamLaneTold
-new_stream_lane = record { port = Some new_streams; port_faults = 0; gate = Some new_gate; gate_faults = 0; asked = 0; looks = 0; greatest = 0; door_faults = 0; noted = 0 }
+new_stream_lane = record { port = Some new_streams; port_faults = 0; gate = Some new_gate; gate_faults = 0; asked = 0; looks = 0; greatest = 0; door_faults = 0; notes = no_notes }
 
 -- a feed of which nothing was asked
 abbrev pub new_feed : FeedTold

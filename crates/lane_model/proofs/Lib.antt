@@ -8,3 +8,4 @@ pub mod Minded
 pub mod Ports
 mod Rows
 pub mod Stated
+pub mod Noted

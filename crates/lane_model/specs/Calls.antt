@@ -9,7 +9,7 @@ use Rattle.outside.specs.Notes.{NotesTold}
 use Rattle.lane_model.specs.declared.ended.Ended.{Ended}
 use Rattle.lane_model.specs.declared.ended.Ended.TheVariants as end
 use Rattle.lane_model.specs.Lanes.{Answers, IsLaneRun}
-use Rattle.lane_model.specs.Turns.{Turn, AreCalm, AreGiven, IsCame, IsFated, IsGiven, IsTold, count_after, entries_of, fails_of, failures, floor_after, gate_turn, is_refused, looks_of, refused_of, port_after, port_turn, tries_of, ended}
+use Rattle.lane_model.specs.Turns.{Turn, AreCalm, IsCame, IsFated, IsTold, count_after, entries_of, fails_of, failures, floor_after, gate_turn, giving, is_refused, looks_of, notes_turn, refused_of, port_after, port_turn, tries_of, ended}
 
 -- what a viewer has seen and was told of, and its door's numbers
 pub record Eyes (V : Type 0) : Type 0 where
@@ -41,7 +41,7 @@ pub record IsRise {V : Type 0} (e f : Eyes V) : Type 0 where
 -- one turn
 pub record IsTurn {V : Type 0} (a : Answers V) (w : ℕ) (t : Turn) (m m' : Moment V) : Type 0 where
   pub gate : BothTell m.gate m'.gate (λ b c. c ≡ going t.shown b)
-  pub notes : BothTell m.notes m'.notes (IsGiven t.notes)
+  pub notes : BothTell m.notes m'.notes (λ b c. c ≡ giving t.notes b)
   pub port : BothTell m.port m'.port (λ b c. c ≡ port_after t.known t.came b)
   pub shown : t.shown + 1 ≡ length m.eyes.heard
   pub known : t.shown ≤ t.known
@@ -99,7 +99,7 @@ pub record IsLaneLog {V : Type 0} (a : Answers V) (w : ℕ) (log : List Turn) (m
   pub run : (floor : ℕ) → floor < length m.eyes.heard → IsLaneRun a m'.eyes.seen w m.count floor (entries_of a.way log) (tries_of log)
   pub told : (floor : ℕ) → floor < length m.eyes.heard → IsTold floor log
   pub port : BothTell m.port m'.port (λ b c. c ≡ fold port_turn b log)
-  pub notes : BothTell m.notes m'.notes (AreGiven log)
+  pub notes : BothTell m.notes m'.notes (λ b c. c ≡ fold notes_turn b log)
   pub rise : IsRise m.eyes m'.eyes
   pub known : All (λ t. t.known < length m'.eyes.heard) log
   pub within : All (λ t. floor_after t.known t.came < length m'.eyes.heard) log

@@ -1,5 +1,5 @@
 -- What contracts see of rows of notes, and what one more note does to a reader. A row is the names of its cells in order.
-use Rattle.std.specs.Prelude.{◌≡◌, ℕ, ◌+◌, List, Option, Some, map, slice_get}
+use Rattle.std.specs.Prelude.{◌≡◌, ℕ, ◌+◌, List, Option, Some, length, map, slice_get}
 use Rattle.std.specs.List.{range_with_len}
 use Rattle.outside.specs.Notes.{NotesTold, noting}
 use Rattle.published_map.specs.Version.{Version}
@@ -16,9 +16,9 @@ pub record ReaderState : Type 0 where
   pub told : NotesTold
   pub last : Option KeptState
 
--- the notes that were given are those of the first versions, so many, one after another
-abbrev pub AreFirst : ℕ → NotesTold → Type 0
-AreFirst count told = map (λ g. g.number) told.given ≡ range_with_len 0 count
+-- the notes that were given are those of the first versions, one after another
+abbrev pub AreFirst : NotesTold → Type 0
+AreFirst told = map (λ g. g.number) told.given ≡ range_with_len 0 (length told.given)
 
 -- one more was given: that of the cell behind those whose notes were given
 pub record Gives (before : ReaderState) (history : List Version) (now : ReaderState) : Type 0 where

@@ -143,7 +143,7 @@ pub struct RowNotes<'a, J: Naming> {
 }
 
 impl<'a, J: Naming> Model for RowNotes<'a, J> {
-    ghost use Rattle.std.specs.Prelude.{◌≤◌};
+    ghost use Rattle.std.specs.Prelude.{◌≡◌, ◌≤◌, length};
     ghost use Rattle.outside.specs.Limits.{most_notes};
     ghost use Rattle.map_cell.specs.Rows.{AreFirst, ReaderState};
 
@@ -156,7 +156,8 @@ impl<'a, J: Naming> Model for RowNotes<'a, J> {
       last = s.last;
     } };
 
-    ghost invariant = { λ s. (s.next ≤ most_notes) × AreFirst s.next s.past.told };
+    ghost invariant = { λ s. (s.next ≤ most_notes)
+        × (length s.past.told.given ≡ s.next) × AreFirst s.past.told };
 }
 
 impl<'a, J: Naming> RowNotes<'a, J> {
@@ -182,8 +183,8 @@ impl<'a, J: Naming> RowNotes<'a, J> {
     /// All that it answered. The notes that it gave are those of the first versions, one after another.
     pub fn into_past(self) -> NotesPast
         ensures told { result.told ≡ self.entry.told }
-        ensures first { AreFirst self.entry.given self.entry.told }
-        ensures few { self.entry.given ≤ most_notes }
+        ensures first { AreFirst result.told }
+        ensures few { length result.told.given ≤ most_notes }
     {
         self.past
     }

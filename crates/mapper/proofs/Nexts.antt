@@ -62,6 +62,10 @@ get_last : (h : List Version) (v : Version) → slice_get (h ++ v ∷ []) (lengt
 get_last [] v = refl
 get_last (x ∷ xs) v = get_last xs v
 
+-- a history with one version more
+pub one_longer : (h k : List Version) (w : Version) → k ≡ h ++ w ∷ [] → length k ≡ length h + 1
+one_longer h k w e = ap length e ∙ length-append h (w ∷ [])
+
 -- the next version is the last of the history that it is added to
 pub sealed_next : (h : List Version) (v w : Version) → IsSealed h v → w.serial ≡ v.serial + 1 → IsSealed (h ++ w ∷ []) w
 sealed_next h v w sealed next = record {

@@ -8,7 +8,7 @@ use Rattle.outside.specs.declared.port.Arrival.TheVariants.{Arrived}
 use Rattle.outside.specs.Gate.{IsTurning}
 use Rattle.outside.specs.declared.gate.Turning.TheVariants.{Go}
 use Rattle.lane_model.specs.Lanes.{following}
-use Rattle.lane_model.specs.Turns.{Came, IsCame, IsGiven, Turn, count_after, fails_of, floor_after, looks_of, idle, oversize, ended, failed, took, silent, refused, tried}
+use Rattle.lane_model.specs.Turns.{Came, IsCame, Turn, count_after, fails_of, floor_after, giving, looks_of, idle, oversize, ended, failed, took, silent, refused, tried}
 use Rattle.lane_model.specs.Calls.{Eyes, IsRise, IsTurn, Moment}
 use Rattle.lane_model.proofs.Going.{rise_none, rise_trans}
 use Rattle.lane_model.proofs.Prefixes.{prefix_length}
@@ -52,7 +52,7 @@ turned w step.PortFailed m m' t q e = (t, q, e)
 turned w step.Refused m m' t q e = (t, q, e)
 
 pub turn_of : (w w1 n1 shown : ℕ) (s : Step) (e1 : Eyes Version) (m m' : Moment Version) → shown + 1 ≡ length m.eyes.heard → BothTell m.gate m'.gate (IsTurning shown Go) → m.gate_faults ≤ m'.gate_faults
-    → ((serials : List ℕ) × BothTell m.notes m'.notes (IsGiven serials) × All (λ x. x < length e1.heard) serials) → IsRise m.eyes e1 → e1.looks ≡ m.eyes.looks → e1.faults ≡ m.eyes.faults → w1 ≡ w → n1 ≡ m.count
+    → ((serials : List ℕ) × BothTell m.notes m'.notes (λ b c. c ≡ giving serials b) × All (λ x. x < length e1.heard) serials) → IsRise m.eyes e1 → e1.looks ≡ m.eyes.looks → e1.faults ≡ m.eyes.faults → w1 ≡ w → n1 ≡ m.count
     → IsTaken w1 n1 m'.count s e1 m'.eyes (record { past = m.port; faults = m.port_faults }) (record { past = m'.port; faults = m'.port_faults }) → IsTurned w s m m'
 turn_of w w1 n1 shown s e1 m m' is gate gl given rise looks faults same count q =
     let r = q.received in

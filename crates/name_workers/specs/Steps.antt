@@ -1,5 +1,5 @@
 -- Inside this crate alone: the steps of a lane's turn.
-use Rattle.std.specs.Prelude.{◌≡◌, ℕ, ◌+◌, ◌<◌, ◌≤◌, true, false, List, length, Option}
+use Rattle.std.specs.Prelude.{◌≡◌, ℕ, ◌+◌, ◌<◌, ◌≤◌, true, false, List, length}
 use Rattle.outside.specs.Faults.{BothTell, DeviceState, Rose, raised}
 use Rattle.outside.specs.Port.{Packet, Try, PortTold, trying}
 use Rattle.published_map.specs.Version.{Version}

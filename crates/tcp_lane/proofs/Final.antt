@@ -12,7 +12,7 @@ use Rattle.addr_text.specs.declared.address.Peer.{Peer}
 use Rattle.answer_core.specs.declared.way.Way.TheVariants.{Stream}
 use Rattle.lane_model.specs.declared.ended.Ended.{Ended}
 use Rattle.lane_model.specs.declared.ended.Ended.TheVariants as end
-use Rattle.lane_model.specs.Turns.{AreCalm, AreGiven, IsGiven, Turn, gate_turn, Fate, entries_of, is_calm, is_refused, took, tries_of, silent, refused, tried}
+use Rattle.lane_model.specs.Turns.{AreCalm, Turn, gate_turn, giving, notes_turn, Fate, entries_of, is_calm, is_refused, took, tries_of, silent, refused, tried}
 use Rattle.lane_model.specs.Calls.{Eyes, IsGateRun, IsLaneLog, AreTurns}
 use Rattle.tcp_lane.specs.Replies.{stream_replies}
 use Rattle.lane_model.proofs.Prefixes.{prefix_length}
@@ -48,10 +48,10 @@ gate_after w [] m m' s = subst (λ k. BothTell m.gate k.gate (λ b c. c ≡ b)) 
 gate_after w (t ∷ log) m m' s =
     tells_on m.gate s.0.gate m'.gate (λ b c. c ≡ gate_turn b (lead_of t)) (λ b c. c ≡ fold gate_turn b (map lead_of log)) (λ b c. c ≡ fold gate_turn b (map lead_of (t ∷ log))) (λ b c d r q. q ∙ ap (λ k. fold gate_turn k (map lead_of log)) r) s.1.gate (gate_after w log s.0 m' s.2)
 
-notes_after : (w : ℕ) (log : List StreamTurn) (m m' : StreamMoment Version) → IsStreamSession stream_replies w log m m' → BothTell m.notes m'.notes (AreGiven (map lead_of log))
+notes_after : (w : ℕ) (log : List StreamTurn) (m m' : StreamMoment Version) → IsStreamSession stream_replies w log m m' → BothTell m.notes m'.notes (λ b c. c ≡ fold notes_turn b (map lead_of log))
 notes_after w [] m m' s = subst (λ k. BothTell m.notes k.notes (λ b c. c ≡ b)) (sym s) (tells_same m.notes)
 notes_after w (t ∷ log) m m' s =
-    tells_on m.notes s.0.notes m'.notes (IsGiven t.notes) (AreGiven (map lead_of log)) (AreGiven (map lead_of (t ∷ log))) (λ b c d r q. (c, r, q)) s.1.notes (notes_after w log s.0 m' s.2)
+    tells_on m.notes s.0.notes m'.notes (λ b c. c ≡ giving t.notes b) (λ b c. c ≡ fold notes_turn b (map lead_of log)) (λ b c. c ≡ fold notes_turn b (map lead_of (t ∷ log))) (λ b c d r q. q ∙ ap (λ k. fold notes_turn k (map lead_of log)) r) s.1.notes (notes_after w log s.0 m' s.2)
 
 rules_after : (w : ℕ) (log : List StreamTurn) (m m' : StreamMoment Version) → IsStreamSession stream_replies w log m m' → AreRuled m.talk log m'.talk
 rules_after w [] m m' s = ap (λ k. k.talk) s
@@ -178,7 +178,7 @@ call_of w turns m m1 m2 e some talk served closes stays faults gate notes eyes c
       shown_is = subst (λ (k : Eyes Version). g.0 + 1 ≡ length k.heard) (sym eyes2) g.1;
       all = inner_same (lane_of served.log) w m served.mid m2 eyes2 (count ∙ like.count) (faults ∙ like.faults) all0;
       streams = closed_at m1.talk.is_open m.streams m1.streams m2.streams (λ b. fold stream_turn b served.log) streams1 closes stays;
-      notes = subst (λ (k : Option NotesTold). BothTell m.notes k (AreGiven (map lead_of served.log))) (sym (notes ∙ like.notes)) (notes_after w served.log m served.mid served.session);
+      notes = subst (λ (k : Option NotesTold). BothTell m.notes k (λ b c. c ≡ fold notes_turn b (map lead_of served.log))) (sym (notes ∙ like.notes)) (notes_after w served.log m served.mid served.session);
       gate = subst (λ (k : Option GateTold). BothTell m.gate k (IsGateRun g.0 (map lead_of served.log) e)) (sym gate) g.2;
       runs = λ b none floor lt.
           subst (λ (o : Bool). (talks : List Talk) × ((closing_if o (fold stream_turn b served.log)).closed ≡ b.closed ++ talks) × ((closing_if o (fold stream_turn b served.log)).current ≡ None) × IsStreamRun stream_replies m2.eyes.seen w m.count floor (stream_refusals served.log) talks (entries_of Stream (lane_of served.log)) (tries_of (lane_of served.log))) (sym (ap (λ k. k.is_open) talk2))

@@ -4,7 +4,7 @@ use Rattle.outside.specs.Faults.{BothTell, raised}
 use Rattle.published_map.specs.Version.{Version}
 use Rattle.outside.specs.Gate.{IsTurning}
 use Rattle.outside.specs.declared.gate.Turning.TheVariants.{Go}
-use Rattle.lane_model.specs.Turns.{IsCame, IsGiven, count_after, fails_of, floor_after, is_refused, looks_of}
+use Rattle.lane_model.specs.Turns.{IsCame, count_after, fails_of, floor_after, giving, is_refused, looks_of}
 use Rattle.lane_model.specs.Calls.{Eyes, IsRise, AreTurns, IsTurn}
 use Rattle.tcp_lane.specs.Replies.{stream_replies}
 use Rattle.lane_model.proofs.Prefixes.{prefix_length}
@@ -116,7 +116,7 @@ lead w shown known notes x e e1 n faults middle is is1 rise looks same noted p q
     }
 
 pub stream_turn_of : (w w1 n1 shown : ℕ) (s : Step) (e1 : Eyes Version) (m m' : StreamMoment Version) → shown + 1 ≡ length m.eyes.heard → BothTell m.gate m'.gate (IsTurning shown Go) → m.gate_faults ≤ m'.gate_faults
-    → ((serials : List ℕ) × BothTell m.notes m'.notes (IsGiven serials) × All (λ x. x < length e1.heard) serials) → IsRise m.eyes e1 → e1.looks ≡ m.eyes.looks → e1.faults ≡ m.eyes.faults → w1 ≡ w → n1 ≡ m.count
+    → ((serials : List ℕ) × BothTell m.notes m'.notes (λ b c. c ≡ giving serials b) × All (λ x. x < length e1.heard) serials) → IsRise m.eyes e1 → e1.looks ≡ m.eyes.looks → e1.faults ≡ m.eyes.faults → w1 ≡ w → n1 ≡ m.count
     → IsTaken w1 n1 m'.count m.talk m'.talk s e1 m'.eyes (record { past = m.streams; faults = m.stream_faults }) (record { past = m'.streams; faults = m'.stream_faults }) → IsTurned w s m m'
 stream_turn_of w w1 n1 shown s e1 m m' is gate gl given rise looks faults same count x =
     let session : AreTurns stream_replies w (map (turn_of x.t.peer) x.t.said) (inner e1 m.count x.middle) (inner m'.eyes m'.count m'.stream_faults) =

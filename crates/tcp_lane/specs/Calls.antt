@@ -8,7 +8,7 @@ use Rattle.outside.specs.Streams.{StreamsTold, Talk}
 use Rattle.lane_model.specs.declared.ended.Ended.{Ended}
 use Rattle.lane_model.specs.declared.ended.Ended.TheVariants as end
 use Rattle.lane_model.specs.Lanes.{Answers}
-use Rattle.lane_model.specs.Turns.{AreCalm, AreGiven, IsGiven, entries_of, failures, refused, refused_of, tries_of}
+use Rattle.lane_model.specs.Turns.{AreCalm, entries_of, failures, giving, notes_turn, refused, refused_of, tries_of}
 use Rattle.lane_model.specs.Calls.{Eyes, IsGateRun, IsLaneLog, AreTurns, Moment}
 use Rattle.tcp_lane.specs.Stream.{IsStreamRun}
 use Rattle.tcp_lane.specs.Turns.{IsBroken, IsRuled, StreamTurn, TalkState, closing_if, ended, lane_of, lead_of, stream_turn, turns_of}
@@ -31,7 +31,7 @@ inner eyes count faults = record { port = None; gate = None; notes = None; eyes 
 -- one turn
 pub record IsStreamTurn {V : Type 0} (a : Answers V) (w : ℕ) (t : StreamTurn) (m m' : StreamMoment V) : Type 0 where
   pub gate : BothTell m.gate m'.gate (λ b c. c ≡ going t.shown b)
-  pub notes : BothTell m.notes m'.notes (IsGiven t.notes)
+  pub notes : BothTell m.notes m'.notes (λ b c. c ≡ giving t.notes b)
   pub streams : BothTell m.streams m'.streams (λ b c. c ≡ stream_turn b t)
   pub session : AreTurns a w (turns_of t) (inner m.eyes m.count m.stream_faults) (inner m'.eyes m'.count m'.stream_faults)
   pub gate_later : m.gate_faults ≤ m'.gate_faults
@@ -89,7 +89,7 @@ pub record IsStreamCall {V : Type 0} (a : Answers V) (w turns : ℕ) (m m' : Str
   pub shown_is : shown + 1 ≡ length m'.eyes.heard
   pub all : IsLaneLog a w (lane_of log) (inner m.eyes m.count m.stream_faults) (inner m'.eyes m'.count m'.stream_faults)
   pub streams : BothTell m.streams m'.streams (λ b c. c ≡ closing_if closes (fold stream_turn b log))
-  pub notes : BothTell m.notes m'.notes (AreGiven (map lead_of log))
+  pub notes : BothTell m.notes m'.notes (λ b c. c ≡ fold notes_turn b (map lead_of log))
   pub gate : BothTell m.gate m'.gate (IsGateRun shown (map lead_of log) result)
   pub runs : (b : StreamsTold) → b.current ≡ None → (floor : ℕ) → floor < length m.eyes.heard
       → (talks : List Talk) × ((closing_if closes (fold stream_turn b log)).closed ≡ b.closed ++ talks) × ((closing_if closes (fold stream_turn b log)).current ≡ None)
