@@ -1,10 +1,9 @@
 -- A worker knew of each note at each answer of its port behind it.
 use Rattle.std.proofs.Common.{◌≡◌, ◌⊎◌, inl, inr, ℕ, zero, suc, ◌+◌, ◌<◌, ◌≤◌, Bool, true, false, List, [], ◌∷◌, ◌++◌, length, map, fold, flat_map, All, Contains, Option, None, Some, refl, ap, sym, subst, ◌∙◌, arith, append_assoc, append-nil}
 use Rattle.std.specs.List.{range_with_len}
-use mathlib.Core.List.{append_cancel_left}
 use Rattle.std.proofs.lemmas.List.Elements.{Contains-append_left, Contains-append_right, Contains-append_cases}
 use Rattle.std.proofs.lemmas.Grind.{flat_map-append}
-use Rattle.std.proofs.lemmas.List.{map-append}
+use Rattle.std.proofs.lemmas.List.{append_cancel_left, map-append}
 use Rattle.addr_text.specs.declared.address.Peer.{Peer}
 use Rattle.outside.specs.Faults.{raised}
 use Rattle.outside.specs.Notes.{Given, NotesTold}
@@ -115,6 +114,9 @@ all_minded first log n rising is g place known has asked behind =
 pub fewer_minded : (first : ℕ) (notes : List Given) (all some : List (ℕ × ℕ)) → ((x : ℕ × ℕ) → Contains some x → Contains all x) → AreMinded first notes all → AreMinded first notes some
 fewer_minded first notes all some within minded g place known has asked behind = minded g place known has (within (place, known) asked) behind
 
+pub none_minded : (first : ℕ) (notes : List Given) → AreMinded first notes []
+none_minded first notes g place known has asked behind = absurd (in_from _ _ asked)
+
 -- DATAGRAMS
 
 -- the datagrams of some turns, as a port tells of them
@@ -163,8 +165,11 @@ takes_asked place (t ∷ log) x has = elim (Contains-append_cases (map asked_at 
 ]
 
 -- at each datagram that a port tells of some turns the worker minded its notes
-pub datagrams_minded : (log : List Turn) (p : PortTold) (n : NotesTold) → IsTold 0 log → n ≡ fold notes_turn no_notes log → AreMinded p.recvs n.given (map asked_at (takes p.recvs log))
-datagrams_minded log p n told is = fewer_minded p.recvs n.given (asks p.recvs log) (map asked_at (takes p.recvs log)) (takes_asked p.recvs log) (all_minded p.recvs log n (told_rises 0 log told) is)
+pub datagrams_minded : (log : List Turn) (first : ℕ) (p : PortTold) (n : NotesTold) (new : List Taken) → p.recvs ≡ first → (fold port_turn p log).taken ≡ p.taken ++ new → IsTold 0 log → n ≡ fold notes_turn no_notes log → AreMinded first n.given (map asked_at new)
+datagrams_minded log first p n new from taken told is =
+    let same : takes p.recvs log ≡ new = append_cancel_left p.taken (takes p.recvs log) new (sym (takes_folded log p) ∙ taken) in
+    subst (λ (k : ℕ). AreMinded k n.given (map asked_at new)) from (subst (λ (xs : List Taken). AreMinded p.recvs n.given (map asked_at xs)) same
+    (fewer_minded p.recvs n.given (asks p.recvs log) (map asked_at (takes p.recvs log)) (takes_asked p.recvs log) (all_minded p.recvs log n (told_rises 0 log told) is)))
 
 -- CONVERSATIONS
 
@@ -300,14 +305,15 @@ grows_log b (t ∷ log) =
         (grows_more c (fold stream_turn c log) (asks (raised b.answers 1) (map lead_of log)) all (λ x has. contains_from _ _ (inr (in_from _ _ has))) rest)
 
 -- at each piece of the conversations that streams tell of some turns the worker minded its notes
-pub pieces_minded : (closes : Bool) (log : List StreamTurn) (b : StreamsTold) (n : NotesTold) (talks : List Talk) → b.current ≡ None → (closing_if closes (fold stream_turn b log)).closed ≡ b.closed ++ talks → IsTold 0 (lane_of log) → n ≡ fold notes_turn no_notes (map lead_of log)
-    → AreMinded b.answers n.given (map read_at (pieces_of talks))
-pieces_minded closes log b n talks none closed told is =
+pub pieces_minded : (closes : Bool) (log : List StreamTurn) (first : ℕ) (b : StreamsTold) (n : NotesTold) (talks : List Talk) → b.answers ≡ first → b.current ≡ None → (closing_if closes (fold stream_turn b log)).closed ≡ b.closed ++ talks → IsTold 0 (lane_of log) → n ≡ fold notes_turn no_notes (map lead_of log)
+    → AreMinded first n.given (map read_at (pieces_of talks))
+pieces_minded closes log first b n talks start none closed told is =
     let c = fold stream_turn b log in
     let all = asks b.answers (map lead_of log) in
     let g : Grows b (closing_if closes c) all = grows_on b c (closing_if closes c) all (grows_log b log) (grows_closed closes c all) in
     let same : talks ≡ g.more = append_cancel_left b.closed talks g.more (sym closed ∙ g.closed) in
-    fewer_minded b.answers n.given all (map read_at (pieces_of talks)) (λ x has. let p = from_map read_at (pieces_of talks) x (in_from _ _ has) in from p.0 x g same p.2 (contains_from _ _ p.1)) (all_minded b.answers (map lead_of log) n (leads_rise 0 log told) is)
+    subst (λ (k : ℕ). AreMinded k n.given (map read_at (pieces_of talks))) start
+    (fewer_minded b.answers n.given all (map read_at (pieces_of talks)) (λ x has. let p = from_map read_at (pieces_of talks) x (in_from _ _ has) in from p.0 x g same p.2 (contains_from _ _ p.1)) (all_minded b.answers (map lead_of log) n (leads_rise 0 log told) is))
   where
     from : (p : Piece) (x : ℕ × ℕ) (g : Grows b (closing_if closes (fold stream_turn b log)) (asks b.answers (map lead_of log))) → talks ≡ g.more → read_at p ≡ x → Contains (pieces_of talks) p → Contains (asks b.answers (map lead_of log)) x
     from p x g same at has = elim (g.pieces p (subst (λ (l : List Piece). Contains l p) (sym (pieces_append g.more (listed (closing_if closes (fold stream_turn b log)).current))) (Contains-append_left (pieces_of g.more) (pieces_of (listed (closing_if closes (fold stream_turn b log)).current)) p (subst (λ (l : List Talk). Contains (pieces_of l) p) same has)))) [

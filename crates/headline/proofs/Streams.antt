@@ -1,6 +1,5 @@
 -- Conversations.
 use Rattle.std.proofs.Common.{◌≡◌, ◌⊎◌, inl, inr, ℕ, suc, ◌+◌, ◌≤◌, Bool, true, false, List, [], ◌∷◌, ◌++◌, length, map, fold, flat_map, take, All, Option, None, Some, refl, ap, ap₂, sym, subst, ◌∙◌, arith, append_assoc, append-nil}
-use Rattle.std.specs.List.{range_with_len}
 use Rattle.std.proofs.lemmas.Bool.{cases_Bool}
 use Rattle.std.proofs.lemmas.List.{map-append}
 use Rattle.std.proofs.lemmas.List.Concat.{flat_map-append}
@@ -16,6 +15,8 @@ use Rattle.outside.specs.declared.port.Opening.TheVariants as opening
 use Rattle.tcp_frames.specs.Split.{framed}
 use Rattle.topology_text.specs.Plan.{Plan}
 use Rattle.published_map.specs.Version.{Version}
+use Rattle.map_cell.specs.Rows.{AreFirst}
+use Rattle.past_log.specs.Notes.{no_notes}
 use Rattle.answer_core.specs.declared.way.Way.{Way}
 use Rattle.answer_core.specs.declared.way.Way.TheVariants as way
 use Rattle.lane_model.specs.declared.ended.Ended.{Ended}
@@ -23,7 +24,7 @@ use Rattle.lane_model.specs.declared.ended.Ended.TheVariants as end
 use Rattle.tcp_lane.specs.Calls.{AreRuled, IsStreamEnd}
 use Rattle.lane_model.specs.Lanes.{Answers, Entry, IsLaneRun, IsTryOf, following}
 use Rattle.lane_model.specs.Replies.{is_silent, replies_by}
-use Rattle.lane_model.specs.Turns.{Came, Fate, Turn, entries_of, entries_of_came, idle, oversize, ended, failed, took, tries_of}
+use Rattle.lane_model.specs.Turns.{Came, Fate, Turn, entries_of, entries_of_came, notes_turn, idle, oversize, ended, failed, took, tries_of}
 use Rattle.lane_model.specs.Turns as fate
 use Rattle.tcp_lane.specs.Replies.{stream_replies}
 use Rattle.tcp_lane.specs.Stream.{AreKnownFrom, AreRounds, Conversation, HasFailed, HasMissed, IsRound, IsStreamRun, IsTakenInPart, IsWhole, Round, messages_of}
@@ -39,7 +40,9 @@ use Rattle.glb.specs.Served.{IsStreamWell}
 use Rattle.headline.specs.Headline.{AreMaps, AreTalks, HaveTalked, IsStreamLane, IsTalk, Share}
 use Rattle.headline.specs.View.{Event, taken, tried}
 use Rattle.headline.proofs.Events.{AreLooked, all_looked, heard_made, last_looked, none_lost, made, right, spoken, tell, tried_made, turned}
+use Rattle.headline.proofs.Minding.{none_minded, numbers_are, pieces_minded}
 use Rattle.headline.proofs.Serving.{cause_from, stands, tells_on, tells_so}
+use Rattle.tcp_lane.proofs.Ends.{lane_notes}
 
 -- WHAT WAS TAKEN
 
@@ -255,22 +258,26 @@ all_replies : (cs : List Conversation) → flat_map (λ (s : Share). s.replies) 
 all_replies [] = refl
 all_replies (c ∷ cs) = ap (λ ps. c.tries ++ ps) (all_replies cs)
 
+-- streams tell of no answer more, and of no conversation
+abbrev pub StreamStays : StreamsTold → StreamsTold → Type 0
+StreamStays b a = (a.closed ≡ b.closed) × (a.current ≡ b.current) × (a.answers ≡ b.answers)
+
 -- the streams tell of no conversation more; the door's count did not fall
 abbrev pub IsStreamIdle : StreamLaneTold → StreamLaneTold → Type 0
-IsStreamIdle before after = BothTell before.port after.port (λ b a. (a.closed ≡ b.closed) × (a.current ≡ b.current)) × (before.door_faults ≤ after.door_faults)
+IsStreamIdle before after = BothTell before.port after.port StreamStays × (before.door_faults ≤ after.door_faults)
 
 -- the streams were opened at most
-same_streams : (s : Option StreamsTold) → BothTell s s (λ b a. (a.closed ≡ b.closed) × (a.current ≡ b.current))
+same_streams : (s : Option StreamsTold) → BothTell s s StreamStays
 same_streams None = tt
-same_streams (Some b) = (refl, refl)
+same_streams (Some b) = (refl, refl, refl)
 
-open_streams : (listen : Listen) (r : Opening) (b c : StreamsTold) → streams.IsOpening listen r b c → (c.closed ≡ b.closed) × (c.current ≡ b.current)
-open_streams listen opening.Ready b c h = (ap (λ (p : StreamsTold). p.closed) h, ap (λ (p : StreamsTold). p.current) h)
-open_streams listen opening.Failed b c h = (ap (λ (p : StreamsTold). p.closed) h.1, ap (λ (p : StreamsTold). p.current) h.1)
+open_streams : (listen : Listen) (r : Opening) (b c : StreamsTold) → streams.IsOpening listen r b c → StreamStays b c
+open_streams listen opening.Ready b c h = (ap (λ (p : StreamsTold). p.closed) h, ap (λ (p : StreamsTold). p.current) h, ap (λ (p : StreamsTold). p.answers) h)
+open_streams listen opening.Failed b c h = (ap (λ (p : StreamsTold). p.closed) h.1, ap (λ (p : StreamsTold). p.current) h.1, ap (λ (p : StreamsTold). p.answers) h.1)
 
 pub idle_streams : (a b c : StreamLaneTold) → IsStreamIdle a b → IsStreamIdle b c → IsStreamIdle a c
 idle_streams a b c h i = (
-  tells_on a.port b.port c.port (λ x y. (y.closed ≡ x.closed) × (y.current ≡ x.current)) (λ x y. (y.closed ≡ x.closed) × (y.current ≡ x.current)) (λ x y. (y.closed ≡ x.closed) × (y.current ≡ x.current)) (λ x y z f g. (g.0 ∙ f.0, g.1 ∙ f.1)) h.0 i.0,
+  tells_on a.port b.port c.port StreamStays StreamStays StreamStays (λ x y z f g. (g.0 ∙ f.0, g.1 ∙ f.1, g.2 ∙ f.2)) h.0 i.0,
   let l = h.1 in
       let m = i.1 in
       omega (arith, l, m),
@@ -281,7 +288,7 @@ stream_same a b same = subst (IsStreamIdle b) (sym same) (same_streams b.port, o
 
 opened : (listen : Listen) (r : Opening) (b c : StreamLaneTold) → IsStreamOpening listen r b c → IsStreamIdle b c
 opened listen r b c h = (
-  tells_so b.port c.port (streams.IsOpening listen r) (λ x y. (y.closed ≡ x.closed) × (y.current ≡ x.current)) (open_streams listen r) h.port,
+  tells_so b.port c.port (streams.IsOpening listen r) StreamStays (open_streams listen r) h.port,
   let same = ap (λ (l : StreamLaneTold). l.door_faults) h.rest in
       omega (arith, same),
 )
@@ -298,7 +305,7 @@ pub stream_idle : (w : ℕ) (t : Option Plan) (maps : List Version) (result : St
 stream_idle w t maps result a c good h = record {
   events = [];
   worker = record { further = []; good = subst (AreMaps t) (sym (append-nil maps)) good; none = λ ok. refl; cause = inl refl; right = tt; notes = inl refl; answered = λ ok. refl };
-  talks = tells_so a.port c.port (λ x y. (y.closed ≡ x.closed) × (y.current ≡ x.current)) (HaveTalked [] []) (λ x y g none. ([], [], g.0 ∙ sym (append-nil x.closed), refl, refl, refl)) h.0;
+  talks = tells_so a.port c.port StreamStays (HaveTalked [] [] c.notes.given) (λ x y g none. ([], [], g.0 ∙ sym (append-nil x.closed), refl, refl, refl, none_minded x.answers c.notes.given)) h.0;
 }
 
 -- what a lane's turns tell of conversations
@@ -307,17 +314,18 @@ Runs over w closes log refusals = (b : StreamsTold) → b.current ≡ None → (
     × IsStreamRun stream_replies over w 0 0 refusals talks (entries_of stream_replies.way (lane_of log)) (tries_of (lane_of log))
 
 made_stream : (t : Option Plan) (maps further over : List Version) (result : Status) (a b c : StreamLaneTold) (w refusals : ℕ) (closes : Bool) (log : List StreamTurn) → AreMaps t (maps ++ further) → (result ≡ status.Ok → (further ≡ []) × AreLooked (lane_of log)) → (further ≡ []) ⊎ Rose b.door_faults c.door_faults ⊎ (length maps ≤ c.greatest)
-    → IsLaneRun stream_replies (maps ++ further) w 0 0 (entries_of stream_replies.way (lane_of log)) (tries_of (lane_of log)) → fate.IsTold 0 (lane_of log) → flat_map (λ (x : Turn). x.notes) (lane_of log) ≡ range_with_len 0 c.noted → IsStreamIdle a b
+    → IsLaneRun stream_replies (maps ++ further) w 0 0 (entries_of stream_replies.way (lane_of log)) (tries_of (lane_of log)) → fate.IsTold 0 (lane_of log) → AreFirst c.notes → c.notes ≡ fold notes_turn no_notes (map lead_of log) → IsStreamIdle a b
     → BothTell b.port c.port (λ x y. y ≡ closing_if closes (fold stream_turn x log)) → Runs over w closes log refusals → IsStreamLane w t maps result a c
-made_stream t maps further over result a b c w refusals closes log good well cause run minded notes still port runs =
+made_stream t maps further over result a b c w refusals closes log good well cause run minded first notes still port runs =
+    let numbers = numbers_are (map lead_of log) c.notes first notes in
     let events = made is_silent (lane_of log) (tries_of (lane_of log)) in
     record {
       events = events;
-      worker = record { further = further; good = good; none = λ ok. (well ok).0; answered = λ ok. none_lost way.Stream (maps ++ further) w (lane_of log) (well ok).1 0 0 (tries_of (lane_of log)) run; cause = cause_from a.door_faults b.door_faults c.door_faults (further ≡ []) (length maps ≤ c.greatest) still.1 cause; right = right way.Stream (maps ++ further) w (lane_of log) 0 0 0 0 (tries_of (lane_of log)) run minded (omega arith); notes = inr (heard_made is_silent (lane_of log) (tries_of (lane_of log)) ∙ notes) };
-      talks = tells_on a.port b.port c.port (λ x y. (y.closed ≡ x.closed) × (y.current ≡ x.current)) (λ x y. y ≡ closing_if closes (fold stream_turn x log)) (HaveTalked (flat_map taken events) (flat_map tried events)) (λ x y z f g. talked x y z f g) still.0 port;
+      worker = record { further = further; good = good; none = λ ok. (well ok).0; answered = λ ok. none_lost way.Stream (maps ++ further) w (lane_of log) (well ok).1 0 0 (tries_of (lane_of log)) run; cause = cause_from a.door_faults b.door_faults c.door_faults (further ≡ []) (length maps ≤ c.greatest) still.1 cause; right = right way.Stream (maps ++ further) w (lane_of log) 0 0 0 0 (tries_of (lane_of log)) run minded (omega arith); notes = inr (heard_made is_silent (lane_of log) (tries_of (lane_of log)) ∙ (lane_notes log ∙ numbers.0), numbers.1) };
+      talks = tells_on a.port b.port c.port StreamStays (λ x y. y ≡ closing_if closes (fold stream_turn x log)) (HaveTalked (flat_map taken events) (flat_map tried events) c.notes.given) (λ x y z f g. talked x y z f g) still.0 port;
     }
   where
-    talked : (x y z : StreamsTold) → (y.closed ≡ x.closed) × (y.current ≡ x.current) → z ≡ closing_if closes (fold stream_turn y log) → HaveTalked (flat_map taken (made is_silent (lane_of log) (tries_of (lane_of log)))) (flat_map tried (made is_silent (lane_of log) (tries_of (lane_of log)))) x z
+    talked : (x y z : StreamsTold) → StreamStays x y → z ≡ closing_if closes (fold stream_turn y log) → HaveTalked (flat_map taken (made is_silent (lane_of log) (tries_of (lane_of log)))) (flat_map tried (made is_silent (lane_of log) (tries_of (lane_of log)))) c.notes.given x z
     talked x y z f g none =
         let r = runs y (f.1 ∙ none) in
         let s = r.3 in (
@@ -327,6 +335,7 @@ made_stream t maps further over result a b c w refusals closes log good well cau
           subst (λ ts. AreTalks ts (map share s.conversations)) (sym s.talks_are) (are_talks stream_replies over w 0 0 s.conversations s.each (subst (λ ts. IsLaneRun stream_replies over w 0 0 (flat_map (λ (c : Conversation). c.taken) s.conversations) ts) s.tries_are (subst (λ xs. IsLaneRun stream_replies over w 0 0 xs (tries_of (lane_of log))) s.taken_are s.run))),
           all_messages s.conversations ∙ ap packets (sym s.taken_are) ∙ sym (taken_made way.Stream (maps ++ further) w (lane_of log) 0 0 (tries_of (lane_of log)) run),
           all_replies s.conversations ∙ sym s.tries_are ∙ sym (tried_made way.Stream (maps ++ further) w (lane_of log) 0 0 (tries_of (lane_of log)) run),
+          pieces_minded closes log x.answers y c.notes r.0 f.2 (f.1 ∙ none) r.1 minded notes,
         )
 
 pub stream_done : (t : Plan) (turns : ℕ) (first : Version) (rest : List Version) (w : ℕ) (result : Status) (x b c : StreamLaneTold) (e : Option Ended) → first.plan ≡ t → AreMaps (Some t) (first ∷ rest) → (result ≡ status.Ok → ⊥) → IsStreamIdle x b → AreStreamsDone turns first rest w e b c
@@ -334,7 +343,7 @@ pub stream_done : (t : Plan) (turns : ℕ) (first : Version) (rest : List Versio
 stream_done t turns first rest w result x b c None plan good not_ok still d = stream_idle w (Some t) (first ∷ rest) result x c good (subst (IsStreamIdle x) (sym d) still)
 stream_done t turns first rest w result x b c (Some e) plan good not_ok still d =
     let s = stands t stream_replies first rest w (lane_of d.log) d.served e d.shown b c plan good d.served_log in
-    made_stream (Some t) (first ∷ rest) s.further d.served_log.over result x b c w _ d.closes d.log s.good (λ ok. absurd (not_ok ok)) s.cause s.run d.served_log.told d.served_log.notes still d.streams d.runs
+    made_stream (Some t) (first ∷ rest) s.further d.served_log.over result x b c w _ d.closes d.log s.good (λ ok. absurd (not_ok ok)) s.cause s.run d.served_log.told d.served_log.numbers d.notes still d.streams d.runs
 
 -- streams that tell of nothing
 abbrev nothing : StreamsTold
@@ -362,7 +371,7 @@ stream_looked turns log end.Spent ending well talk ruled = elim well [ inl e ↦
 pub stream_well : (t : Plan) (tcp : Option Listen) (turns : ℕ) (maps : List Version) (w : ℕ) (result : Status) (x b c : StreamLaneTold) → AreMaps (Some t) maps → IsStreamIdle x b → IsStreamWell tcp turns maps w b c → IsStreamLane w (Some t) maps result x c
 stream_well t None turns maps w result x b c good still d = stream_idle w (Some t) maps result x c good (subst (IsStreamIdle x) (sym d) still)
 stream_well t (Some at) turns maps w result x b c good still d =
-    made_stream (Some t) maps [] maps result x b c w 0 d.closes d.log (subst (AreMaps (Some t)) (sym (append-nil maps)) good) (λ ok. (refl, stream_looked turns d.log d.ended d.ending d.well d.rules.0 d.rules.1)) (inl refl) (subst (λ h. IsLaneRun stream_replies h w 0 0 (entries_of stream_replies.way (lane_of d.log)) (tries_of (lane_of d.log))) (sym (append-nil maps)) (run_of maps w d.log d.closes d.runs)) d.told d.notes still d.streams d.runs
+    made_stream (Some t) maps [] maps result x b c w 0 d.closes d.log (subst (AreMaps (Some t)) (sym (append-nil maps)) good) (λ ok. (refl, stream_looked turns d.log d.ended d.ending d.well d.rules.0 d.rules.1)) (inl refl) (subst (λ h. IsLaneRun stream_replies h w 0 0 (entries_of stream_replies.way (lane_of d.log)) (tries_of (lane_of d.log))) (sym (append-nil maps)) (run_of maps w d.log d.closes d.runs)) d.told d.numbers d.notes still d.streams d.runs
   where
     run_of : (maps : List Version) (w : ℕ) (log : List StreamTurn) (closes : Bool) → Runs maps w closes log 0 → IsLaneRun stream_replies maps w 0 0 (entries_of stream_replies.way (lane_of log)) (tries_of (lane_of log))
     run_of maps w log closes runs = (runs nothing refl).3.run

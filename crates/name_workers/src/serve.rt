@@ -21,6 +21,13 @@ use outside::{Arrival, Gate, LARGEST_DATAGRAM, LARGEST_REPLY, Notes, Port, Sendi
 /// copy of its own.
 const BUFFER: usize = LARGEST_DATAGRAM + 1;
 
+/// Room for a datagram and for its reply.
+#[derive(Drop)]
+pub(crate) struct Room {
+    datagram: [u8; BUFFER],
+    reply: ArrayVec<u8, LARGEST_REPLY>,
+}
+
 /// What became of a datagram.
 #[derive(Clone, Copy)]
 pub(crate) enum Fared {
@@ -103,8 +110,7 @@ fn one_turn<J: Naming, P: Port, G: Gate, D: Door, N: Notes<Note<J>>>(
     gate: &mut G,
     door: &mut D,
     notes: &mut N,
-    buffer: &mut [u8; BUFFER],
-    out: &mut ArrayVec<u8, LARGEST_REPLY>,
+    room: &mut Room,
 ) -> Step
     ensures turned { IsTurned worker.old.number result (moment_of P.told G.told N.told
         port.old gate.old notes.old (eyes_of D.told worker.old.viewer door.old) worker.old.count)
@@ -117,7 +123,7 @@ fn one_turn<J: Naming, P: Port, G: Gate, D: Door, N: Notes<Note<J>>>(
         return Step::Stopped;
     }
     learn_all(worker, door, notes);
-    take_one(worker, port, door, buffer, out)
+    take_one(worker, port, door, &mut room.datagram, &mut room.reply)
 }
 
 /// The turns of a lane.
@@ -136,11 +142,13 @@ fn serve_turns<J: Naming, P: Port, G: Gate, D: Door, N: Notes<Note<J>>>(
     ensures number { worker.new.number ≡ worker.old.number }
     ensures asked { (D.told door.new).asked ≡ (D.told door.old).asked }
 {
-    let mut buffer = [0u8; BUFFER];
-    let mut out = ArrayVec::new();
+    let mut room = Room {
+        datagram: [0u8; BUFFER],
+        reply: ArrayVec::new(),
+    };
     let mut failed = 0u8;
     for _ in 0..turns {
-        let step = one_turn(worker, port, gate, door, notes, &mut buffer, &mut out);
+        let step = one_turn(worker, port, gate, door, notes, &mut room);
         if let Some(ended) = next_end(step, &mut failed) {
             return ended;
         }

@@ -187,6 +187,3 @@ call_of w turns m m1 m2 e some talk served closes stays faults gate notes eyes c
       rules = (m1.talk, subst (λ (k : TalkState). AreRuled k served.log m1.talk) talk (subst (λ (k : TalkState). AreRuled m.talk served.log k) (sym talk2) (rules_after w served.log m served.mid served.session)), refl);
       ending = served.ending;
     }
-
-pub talk_is : (l : TalkState) → l.is_open ≡ false → l.peer ≡ no_talk.peer → l.held ≡ [] → l.quiets ≡ 0 → l ≡ no_talk
-talk_is l a b c d = ap (λ k. record l { is_open = k }) a ∙ (ap (λ k. record { is_open = false; peer = k; held = l.held; quiets = l.quiets }) b ∙ (ap (λ k. record { is_open = false; peer = no_talk.peer; held = k; quiets = l.quiets }) c ∙ ap (λ k. record { is_open = false; peer = no_talk.peer; held = []; quiets = k }) d))

@@ -15,7 +15,7 @@ use Rattle.tcp_lane.specs.declared.answering.Fared.TheVariants as fared
 use Rattle.name_workers.specs.declared.ending.Step.{Step}
 use Rattle.name_workers.specs.declared.ending.Step.TheVariants as step
 use Rattle.tcp_frames.specs.Split.{IsOverlong}
-use Rattle.tcp_lane.specs.Turns.{AreKnown, AreWell, StreamCame, IsLeft, Said, StreamTurn, TalkState, lane_came, closing_if, stream_after, saying, turn_of, idle, ended, missed, come, got, quiet, shut, broke, on, long, lost, blind}
+use Rattle.tcp_lane.specs.Turns.{AreKnown, AreWell, StreamCame, IsLeft, Said, StreamTurn, TalkState, lane_came, closing_if, stream_after, saying, turn_of, idle, missed, come, got, quiet, shut, broke, on, long, lost, blind}
 use Rattle.tcp_lane.specs.Calls.{inner}
 use Rattle.tcp_lane.specs.Steps.{IsAnswered, IsPieceTaken, IsPlain, IsStepOf, IsTaken, is_on, plain, step_of}
 

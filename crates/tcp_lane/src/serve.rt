@@ -17,6 +17,13 @@ use name_workers::{Step, Worker, learn_all, next_end};
 use outside::{Accepting, Gate, Notes, Reading, Streams, Turning};
 use tcp_frames::{LARGEST_FRAME, is_overlong};
 
+/// The conversation of a lane, and room for its next piece.
+#[derive(Drop)]
+pub(crate) struct Talking {
+    talk: LaneTalk,
+    piece: [u8; LARGEST_FRAME],
+}
+
 /// Takes all whole messages of a piece that was read.
 fn take_piece<J: Naming, Q: Streams, D: Door>(
     worker: &mut Worker<J>,
@@ -146,16 +153,15 @@ fn one_turn<J: Naming, Q: Streams, G: Gate, D: Door, N: Notes<Note<J>>>(
     gate: &mut G,
     door: &mut D,
     notes: &mut N,
-    talk: &mut LaneTalk,
-    buffer: &mut [u8; LARGEST_FRAME],
+    talking: &mut Talking,
 ) -> Step
-    requires few { talk.old.quiets < 200 }
-    ensures few { talk.new.quiets < 200 }
+    requires few { talking.old.talk.quiets < 200 }
+    ensures few { talking.new.talk.quiets < 200 }
     ensures turned { IsTurned worker.old.number
         result (stream_moment_of Q.told G.told N.told streams.old gate.old notes.old
-        (eyes_of D.told worker.old.viewer door.old) worker.old.count (talk_state_of talk.old))
+        (eyes_of D.told worker.old.viewer door.old) worker.old.count (talk_state_of talking.old.talk))
         (stream_moment_of Q.told G.told N.told streams.new gate.new notes.new
-        (eyes_of D.told worker.new.viewer door.new) worker.new.count (talk_state_of talk.new)) }
+        (eyes_of D.told worker.new.viewer door.new) worker.new.count (talk_state_of talking.new.talk)) }
     ensures number { worker.new.number ≡ worker.old.number }
     ensures asked { (D.told door.new).asked ≡ (D.told door.old).asked }
 {
@@ -163,37 +169,38 @@ fn one_turn<J: Naming, Q: Streams, G: Gate, D: Door, N: Notes<Note<J>>>(
         return Step::Stopped;
     }
     learn_all(worker, door, notes);
-    take_one(worker, streams, door, talk, buffer)
+    take_one(worker, streams, door, &mut talking.talk, &mut talking.piece)
 }
 
-/// The turns of a lane.
+/// The turns of a lane, and its conversation behind them.
 fn serve_turns<J: Naming, Q: Streams, G: Gate, D: Door, N: Notes<Note<J>>>(
     worker: &mut Worker<J>,
     streams: &mut Q,
     gate: &mut G,
     door: &mut D,
     notes: &mut N,
-    talk: &mut LaneTalk,
     turns: u64,
-) -> Ended
-    requires few { talk.old.quiets < 200 }
+) -> (Ended, LaneTalk)
     ensures served { IsServed worker.old.number
         turns (stream_moment_of Q.told G.told N.told streams.old gate.old notes.old
-        (eyes_of D.told worker.old.viewer door.old) worker.old.count (talk_state_of talk.old))
+        (eyes_of D.told worker.old.viewer door.old) worker.old.count no_talk)
         (stream_moment_of Q.told G.told N.told streams.new gate.new notes.new (eyes_of
-        D.told worker.new.viewer door.new) worker.new.count (talk_state_of talk.new)) result }
+        D.told worker.new.viewer door.new) worker.new.count (talk_state_of result.1)) result.0 }
     ensures number { worker.new.number ≡ worker.old.number }
     ensures asked { (D.told door.new).asked ≡ (D.told door.old).asked }
 {
-    let mut buffer = [0u8; LARGEST_FRAME];
+    let mut talking = Talking {
+        talk: no_talk(),
+        piece: [0u8; LARGEST_FRAME],
+    };
     let mut failed = 0u8;
     for _ in 0..turns {
-        let step = one_turn(worker, streams, gate, door, notes, talk, &mut buffer);
+        let step = one_turn(worker, streams, gate, door, notes, &mut talking);
         if let Some(ended) = next_end(step, &mut failed) {
-            return ended;
+            return (ended, talking.talk);
         }
     }
-    Ended::Spent
+    (Ended::Spent, talking.talk)
 }
 
 /// Serves streams: in each of at most `turns` turns asks the gate, learns the notes, and takes the next conversation, or
@@ -224,8 +231,7 @@ pub fn serve_streams<J: Naming, Q: Streams, G: Gate, D: Door, N: Notes<Note<J>>>
 {
     // tells the prover what the type keeps
     let _ = worker.known();
-    let mut talk = no_talk();
-    let ended = serve_turns(worker, streams, gate, door, notes, &mut talk, turns);
+    let (ended, mut talk) = serve_turns(worker, streams, gate, door, notes, turns);
     if talk.is_open {
         close(streams, &mut talk);
     }
