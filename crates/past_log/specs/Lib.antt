@@ -2,6 +2,7 @@ pub mod Calls
 pub mod Gate
 pub mod Line
 pub mod Names
+pub mod Notes
 pub mod Pace
 pub mod Port
 pub mod Shelf
