@@ -1,7 +1,6 @@
 pub mod Calls
 pub mod Gate
 pub mod Line
-pub mod Names
 pub mod Notes
 pub mod Pace
 pub mod Port
