@@ -4,6 +4,7 @@ pub mod Line
 pub mod Notes
 pub mod Pace
 pub mod Port
+pub mod Shelf
 pub mod Sink
 pub mod Source
 pub mod Streams
