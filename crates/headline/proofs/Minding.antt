@@ -1,5 +1,5 @@
 -- A worker knew of each note at each answer of its port behind it.
-use Rattle.std.proofs.Common.{◌≡◌, ◌⊎◌, inl, inr, ℕ, zero, suc, ◌+◌, ◌<◌, ◌≤◌, Bool, true, false, List, [], ◌∷◌, ◌++◌, length, map, fold, flat_map, All, Contains, Option, None, Some, refl, ap, sym, subst, ◌∙◌, arith, append_assoc, append-nil}
+use Rattle.std.proofs.Common.{◌≡◌, ◌⊎◌, inl, inr, ℕ, suc, ◌+◌, ◌-◌, ◌^◌, ◌<◌, ◌≤◌, Bool, true, false, List, [], ◌∷◌, ◌++◌, length, map, fold, flat_map, All, Contains, Option, None, Some, refl, ap, sym, subst, ◌∙◌, arith, append_assoc, append-nil}
 use Rattle.std.specs.List.{range_with_len}
 use Rattle.std.proofs.lemmas.List.Elements.{Contains-append_left, Contains-append_right, Contains-append_cases}
 use Rattle.std.proofs.lemmas.Grind.{flat_map-append}
@@ -56,54 +56,69 @@ told_rises floor (t ∷ log) told =
 
 -- MINDING
 
-number_below : (nones known : ℕ) (notes : List ℕ) (g : Given) → All (λ s. s ≤ known) notes → Contains (map (λ s. record { number = s; place = nones }) notes) g → (g.number ≤ known) × (g.place ≡ nones)
-number_below nones known [] g all has = absurd (in_from _ _ has)
-number_below nones known (s ∷ notes) g all has = elim (in_from _ _ has) [
+none_in : {X : Type 0} (x : X) → Contains [] x → ⊥
+none_in x has = in_from [] x has
+
+cons_cases : {X : Type 0} (y : X) (ys : List X) (x : X) → Contains (y ∷ ys) x → (y ≡ x) ⊎ Contains ys x
+cons_cases y ys x has = elim (in_from (y ∷ ys) x has) [ inl is ↦ inl is | inr more ↦ inr (contains_from ys x more) ]
+
+here_in : {X : Type 0} (y : X) (ys : List X) (x : X) → y ≡ x → Contains (y ∷ ys) x
+here_in y ys x is = contains_from (y ∷ ys) x (inl is)
+
+later_in : {X : Type 0} (y : X) (ys : List X) (x : X) → Contains ys x → Contains (y ∷ ys) x
+later_in y ys x has = contains_from (y ∷ ys) x (inr (in_from ys x has))
+
+abbrev given_at : ℕ → ℕ → Given
+given_at nones s = record { number = s; place = nones }
+
+number_below : (nones known : ℕ) (notes : List ℕ) (g : Given) → All (λ s. s ≤ known) notes → Contains (map (given_at nones) notes) g → (g.number ≤ known) × (g.place ≡ nones)
+number_below nones known [] g all has = absurd (none_in g has)
+number_below nones known (s ∷ notes) g all has = elim (cons_cases (given_at nones s) (map (given_at nones) notes) g has) [
   | inl is ↦ (subst (λ (x : Given). x.number ≤ known) is (all 0 s (omega arith)), sym (ap (λ (x : Given). x.place) is))
-  | inr more ↦ number_below nones known notes g (λ k d within. all (suc k) d (omega (arith, within))) (contains_from _ _ more)
+  | inr more ↦ number_below nones known notes g (λ k d within. all (suc k) d (omega (arith, within))) more
+]
+
+place_of : (nones : ℕ) (notes : List ℕ) (g : Given) → Contains (map (given_at nones) notes) g → g.place ≡ nones
+place_of nones [] g has = absurd (none_in g has)
+place_of nones (s ∷ notes) g has = elim (cons_cases (given_at nones s) (map (given_at nones) notes) g has) [
+  | inl is ↦ sym (ap (λ (x : Given). x.place) is)
+  | inr more ↦ place_of nones notes g more
 ]
 
 places_low : (nones : ℕ) (log : List Turn) (g : Given) → Contains (gives nones log) g → nones ≤ g.place
-places_low nones [] g has = absurd (in_from _ _ has)
-places_low nones (t ∷ log) g has = elim (Contains-append_cases (map (λ s. record { number = s; place = nones }) t.notes) (gives (raised nones 1) log) g has) [
+places_low nones [] g has = absurd (none_in g has)
+places_low nones (t ∷ log) g has = elim (Contains-append_cases (map (given_at nones) t.notes) (gives (raised nones 1) log) g has) [
   | inl here ↦ let is = place_of nones t.notes g here in omega (arith, is)
   | inr later ↦ let low = places_low (raised nones 1) log g later in omega (arith, low)
 ]
-  where
-    place_of : (nones : ℕ) (notes : List ℕ) (g : Given) → Contains (map (λ s. record { number = s; place = nones }) notes) g → g.place ≡ nones
-    place_of nones [] g has = absurd (in_from _ _ has)
-    place_of nones (s ∷ notes) g has = elim (in_from _ _ has) [
-      | inl is ↦ sym (ap (λ (x : Given). x.place) is)
-      | inr more ↦ place_of nones notes g (contains_from _ _ more)
-    ]
 
 asked_high : (floor first : ℕ) (log : List Turn) (place known : ℕ) → IsRising floor log → Contains (asks first log) (place, known) → floor ≤ known
-asked_high floor first [] place known r has = absurd (in_from _ _ has)
-asked_high floor first (t ∷ log) place known r has = elim (in_from _ _ has) [
-  | inl is ↦ let here = r.0 in let same = ap (λ (x : ℕ × ℕ). x.1) is in omega (arith, here, same)
-  | inr more ↦ let here = r.0 in let high = asked_high t.known (raised first 1) log place known r.2 (contains_from _ _ more) in omega (arith, here, high)
+asked_high floor first [] place known r has = absurd (none_in (place, known) has)
+asked_high floor first (t ∷ log) place known r has = elim (cons_cases (first, t.known) (asks (raised first 1) log) (place, known) has) [
+  | inl is ↦ let here = r.0 in let same : t.known ≡ known = ap (λ (x : ℕ × ℕ). x.1) is in omega (arith, here, same)
+  | inr more ↦ let here = r.0 in let high = asked_high t.known (raised first 1) log place known r.2 more in omega (arith, here, high)
 ]
 
 -- an answer ahead of a note is not behind it
 ahead : (first i place given : ℕ) → place ≡ raised first i → raised 0 (i + 1) ≤ given → first + given ≤ place → place < 2 ^ 64 - 1 → ⊥
 ahead first i place given is low behind within = omega (arith, is, low, behind, within)
 
+next : (n i : ℕ) → raised (raised n i) 1 ≡ raised n (i + 1)
+next n i = omega arith
+
 minds : (floor first i : ℕ) (log : List Turn) → IsRising floor log → (g : Given) (place known : ℕ) → Contains (gives (raised 0 i) log) g → Contains (asks (raised first i) log) (place, known) → IsBehind first g place → g.number ≤ known
-minds floor first i [] rising g place known has asked behind = absurd (in_from _ _ has)
+minds floor first i [] rising g place known has asked behind = absurd (none_in g has)
 minds floor first i (t ∷ log) rising g place known has asked behind =
-    elim (Contains-append_cases (map (λ s. record { number = s; place = raised 0 i }) t.notes) (gives (raised (raised 0 i) 1) log) g has) [
-      | inl here ↦ let low = (number_below (raised 0 i) t.known t.notes g rising.1 here).0 in elim (in_from _ _ asked) [
-        | inl is ↦ let same = ap (λ (x : ℕ × ℕ). x.1) is in omega (arith, low, same)
-        | inr more ↦ let high = asked_high t.known (raised (raised first i) 1) log place known rising.2 (contains_from _ _ more) in omega (arith, low, high)
+    elim (Contains-append_cases (map (given_at (raised 0 i)) t.notes) (gives (raised (raised 0 i) 1) log) g has) [
+      | inl here ↦ let low = (number_below (raised 0 i) t.known t.notes g rising.1 here).0 in elim (cons_cases (raised first i, t.known) (asks (raised (raised first i) 1) log) (place, known) asked) [
+        | inl is ↦ let same : t.known ≡ known = ap (λ (x : ℕ × ℕ). x.1) is in omega (arith, low, same)
+        | inr more ↦ let high = asked_high t.known (raised (raised first i) 1) log place known rising.2 more in omega (arith, low, high)
       ]
-      | inr later ↦ elim (in_from _ _ asked) [
-        | inl is ↦ absurd (ahead first i place g.place (sym (ap (λ (x : ℕ × ℕ). x.0) is)) (places_low (raised 0 (i + 1)) log g (subst (λ (n : ℕ). Contains (gives n log) g) (next 0 i) later)) behind.0 behind.1)
-        | inr more ↦ minds t.known first (i + 1) log rising.2 g place known (subst (λ (n : ℕ). Contains (gives n log) g) (next 0 i) later) (subst (λ (n : ℕ). Contains (asks n log) (place, known)) (next first i) (contains_from _ _ more)) behind
+      | inr later ↦ let after = subst (λ (n : ℕ). Contains (gives n log) g) (next 0 i) later in elim (cons_cases (raised first i, t.known) (asks (raised (raised first i) 1) log) (place, known) asked) [
+        | inl is ↦ absurd (ahead first i place g.place (sym (ap (λ (x : ℕ × ℕ). x.0) is)) (places_low (raised 0 (i + 1)) log g after) behind.0 behind.1)
+        | inr more ↦ minds t.known first (i + 1) log rising.2 g place known after (subst (λ (n : ℕ). Contains (asks n log) (place, known)) (next first i) more) behind
       ]
     ]
-  where
-    next : (n i : ℕ) → raised (raised n i) 1 ≡ raised n (i + 1)
-    next n i = omega arith
 
 -- of all turns of a lane
 pub all_minded : (first : ℕ) (log : List Turn) (n : NotesTold) → IsRising 0 log → n ≡ fold notes_turn no_notes log → AreMinded first n.given (asks first log)
@@ -115,7 +130,7 @@ pub fewer_minded : (first : ℕ) (notes : List Given) (all some : List (ℕ × �
 fewer_minded first notes all some within minded g place known has asked behind = minded g place known has (within (place, known) asked) behind
 
 pub none_minded : (first : ℕ) (notes : List Given) → AreMinded first notes []
-none_minded first notes g place known has asked behind = absurd (in_from _ _ asked)
+none_minded first notes g place known has asked behind = absurd (none_in (place, known) asked)
 
 -- DATAGRAMS
 
@@ -158,10 +173,10 @@ taken_asked place known failed log x has = absurd has
 taken_asked place known (took d fate) log x has = elim has [ inl is ↦ sym is | inr none ↦ absurd none ]
 
 takes_asked : (place : ℕ) (log : List Turn) (x : ℕ × ℕ) → Contains (map asked_at (takes place log)) x → Contains (asks place log) x
-takes_asked place [] x has = absurd (in_from _ _ has)
-takes_asked place (t ∷ log) x has = elim (Contains-append_cases (map asked_at (taken_by place t.known t.came)) (map asked_at (takes (raised place 1) log)) x (subst (λ xs. Contains xs x) (map-append asked_at (taken_by place t.known t.came) (takes (raised place 1) log)) has)) [
-  | inl here ↦ contains_from _ _ (inl (sym (taken_asked place t.known t.came log x (in_from _ _ here))))
-  | inr later ↦ contains_from _ _ (inr (in_from _ _ (takes_asked (raised place 1) log x later)))
+takes_asked place [] x has = absurd (none_in x has)
+takes_asked place (t ∷ log) x has = elim (Contains-append_cases (map asked_at (taken_by place t.known t.came)) (map asked_at (takes (raised place 1) log)) x (subst (λ (xs : List (ℕ × ℕ)). Contains xs x) (map-append asked_at (taken_by place t.known t.came) (takes (raised place 1) log)) has)) [
+  | inl here ↦ here_in (place, t.known) (asks (raised place 1) log) x (sym (taken_asked place t.known t.came log x (in_from (map asked_at (taken_by place t.known t.came)) x here)))
+  | inr later ↦ later_in (place, t.known) (asks (raised place 1) log) x (takes_asked (raised place 1) log x later)
 ]
 
 -- at each datagram that a port tells of some turns the worker minded its notes
@@ -213,8 +228,8 @@ grows_on b c d new g h = record {
   closed = h.closed ∙ (ap (λ (l : List Talk). l ++ h.more) g.closed ∙ append_assoc b.closed g.more h.more);
   pieces = λ x has. elim (Contains-append_cases (pieces_of g.more) (pieces_of (h.more ++ listed d.current)) x (subst (λ (l : List Piece). Contains l x) (ap pieces_of (append_assoc g.more h.more (listed d.current)) ∙ pieces_append g.more (h.more ++ listed d.current)) has)) [
     | inl first ↦ g.pieces x (subst (λ (l : List Piece). Contains l x) (sym (pieces_append g.more (listed c.current))) (Contains-append_left (pieces_of g.more) (pieces_of (listed c.current)) x first))
-    | inr then ↦ elim (h.pieces x then) [
-      | inl open ↦ g.pieces x (subst (λ (l : List Piece). Contains l x) (sym (pieces_append g.more (listed c.current))) (Contains-append_right (pieces_of g.more) (pieces_of (listed c.current)) x open))
+    | inr behind ↦ elim (h.pieces x behind) [
+      | inl kept ↦ g.pieces x (subst (λ (l : List Piece). Contains l x) (sym (pieces_append g.more (listed c.current))) (Contains-append_right (pieces_of g.more) (pieces_of (listed c.current)) x kept))
       | inr here ↦ inr here
     ]
   ];
@@ -260,21 +275,23 @@ heard_pieces : (p : Piece) (o : Option Talk) (x : Piece) → Contains (pieces_of
 heard_pieces p None x has = inl has
 heard_pieces p (Some t) x has = elim (Contains-append_cases t.pieces (p ∷ []) x (subst (λ (l : List Piece). Contains l x) (append-nil (t.pieces ++ p ∷ [])) has)) [
   | inl old ↦ inl (Contains-append_left t.pieces [] x old)
-  | inr here ↦ elim (in_from _ _ here) [ inl is ↦ inr (contains_from _ _ (inl (ap read_at is))) | inr none ↦ absurd none ]
+  | inr here ↦ elim (cons_cases p [] x here) [ inl is ↦ inr (here_in (read_at p) [] (read_at x) (ap read_at is)) | inr none ↦ absurd (none_in x none) ]
 ]
 
 grows_coming : (peer : Peer) (b : StreamsTold) (new : List (ℕ × ℕ)) → Grows b (streams.coming peer b) new
 grows_coming peer b new = record {
   more = listed b.current;
   closed = refl;
-  pieces = λ x has. elim (Contains-append_cases (pieces_of (listed b.current)) [] x (subst (λ (l : List Piece). Contains l x) (pieces_append (listed b.current) (listed (streams.coming peer b).current)) has)) [ inl old ↦ inl old | inr none ↦ absurd (in_from _ _ none) ];
+  pieces = λ x has. elim (Contains-append_cases (pieces_of (listed b.current)) [] x (subst (λ (l : List Piece). Contains l x) (pieces_append (listed b.current) (listed (streams.coming peer b).current)) has)) [ inl old ↦ inl old | inr none ↦ absurd (none_in x none) ];
 }
 
 grows_after : (known : ℕ) (came : StreamCame) (b : StreamsTold) → Grows b (stream_after known came b) ((b.answers, known) ∷ []) × ((stream_after known came b).answers ≡ raised b.answers 1)
 grows_after known turn.idle b = (grows_same b (stream_after known turn.idle b) _ refl refl, refl)
 grows_after known turn.ended b = (grows_same b (stream_after known turn.ended b) _ refl refl, refl)
 grows_after known turn.missed b = (grows_same b (stream_after known turn.missed b) _ refl refl, refl)
-grows_after known (turn.come peer) b = (grows_coming peer b _, refl)
+grows_after known (turn.come peer) b =
+    let g = grows_coming peer (streams.answered known b) ((b.answers, known) ∷ []) in
+    (record { more = g.more; closed = g.closed; pieces = g.pieces }, refl)
 grows_after known (turn.got octets) b = (record { more = []; closed = sym (append-nil b.closed); pieces = heard_pieces (record { octets = octets; known = known; place = b.answers }) b.current }, refl)
 grows_after known turn.quiet b = (grows_same b (stream_after known turn.quiet b) _ refl (changed_pieces _ (λ t. refl) b.current), refl)
 grows_after known turn.shut b = (grows_same b (stream_after known turn.shut b) _ refl refl, refl)
@@ -301,8 +318,8 @@ grows_log b (t ∷ log) =
     let rest = subst (λ (k : ℕ). Grows c (fold stream_turn c log) (asks k (map lead_of log))) one.1 (grows_log c log) in
     let all = asks b.answers (map lead_of (t ∷ log)) in
     grows_on b c (fold stream_turn c log) all
-        (grows_more b c ((b.answers, t.known) ∷ []) all (λ x has. elim (in_from _ _ has) [ inl is ↦ contains_from _ _ (inl is) | inr none ↦ absurd none ]) one.0)
-        (grows_more c (fold stream_turn c log) (asks (raised b.answers 1) (map lead_of log)) all (λ x has. contains_from _ _ (inr (in_from _ _ has))) rest)
+    (grows_more b c ((b.answers, t.known) ∷ []) all (λ x has. elim (cons_cases (b.answers, t.known) [] x has) [ inl is ↦ here_in (b.answers, t.known) (asks (raised b.answers 1) (map lead_of log)) x is | inr none ↦ absurd (none_in x none) ]) one.0)
+    (grows_more c (fold stream_turn c log) (asks (raised b.answers 1) (map lead_of log)) all (λ x has. later_in (b.answers, t.known) (asks (raised b.answers 1) (map lead_of log)) x has) rest)
 
 -- at each piece of the conversations that streams tell of some turns the worker minded its notes
 pub pieces_minded : (closes : Bool) (log : List StreamTurn) (first : ℕ) (b : StreamsTold) (n : NotesTold) (talks : List Talk) → b.answers ≡ first → b.current ≡ None → (closing_if closes (fold stream_turn b log)).closed ≡ b.closed ++ talks → IsTold 0 (lane_of log) → n ≡ fold notes_turn no_notes (map lead_of log)
@@ -313,10 +330,10 @@ pieces_minded closes log first b n talks start none closed told is =
     let g : Grows b (closing_if closes c) all = grows_on b c (closing_if closes c) all (grows_log b log) (grows_closed closes c all) in
     let same : talks ≡ g.more = append_cancel_left b.closed talks g.more (sym closed ∙ g.closed) in
     subst (λ (k : ℕ). AreMinded k n.given (map read_at (pieces_of talks))) start
-    (fewer_minded b.answers n.given all (map read_at (pieces_of talks)) (λ x has. let p = from_map read_at (pieces_of talks) x (in_from _ _ has) in from p.0 x g same p.2 (contains_from _ _ p.1)) (all_minded b.answers (map lead_of log) n (leads_rise 0 log told) is))
+    (fewer_minded b.answers n.given all (map read_at (pieces_of talks)) (λ x has. let p = from_map read_at (pieces_of talks) x (in_from (map read_at (pieces_of talks)) x has) in from p.0 x g same p.2 (contains_from (pieces_of talks) p.0 p.1)) (all_minded b.answers (map lead_of log) n (leads_rise 0 log told) is))
   where
     from : (p : Piece) (x : ℕ × ℕ) (g : Grows b (closing_if closes (fold stream_turn b log)) (asks b.answers (map lead_of log))) → talks ≡ g.more → read_at p ≡ x → Contains (pieces_of talks) p → Contains (asks b.answers (map lead_of log)) x
     from p x g same at has = elim (g.pieces p (subst (λ (l : List Piece). Contains l p) (sym (pieces_append g.more (listed (closing_if closes (fold stream_turn b log)).current))) (Contains-append_left (pieces_of g.more) (pieces_of (listed (closing_if closes (fold stream_turn b log)).current)) p (subst (λ (l : List Talk). Contains (pieces_of l) p) same has)))) [
-      | inl old ↦ absurd (in_from _ _ (subst (λ (o : Option Talk). Contains (pieces_of (listed o)) p) none old))
+      | inl old ↦ absurd (none_in p (subst (λ (o : Option Talk). Contains (pieces_of (listed o)) p) none old))
       | inr new ↦ subst (λ (y : ℕ × ℕ). Contains (asks b.answers (map lead_of log)) y) at new
     ]

@@ -28,7 +28,7 @@ use Rattle.glb.specs.declared.status.Status.{Status}
 use Rattle.glb.specs.declared.status.Status.TheVariants as status
 use Rattle.headline.specs.View.{Change, Choice, Group, Instance, Line, Name, Node}
 use Rattle.headline.specs.View.{capacity_by, demand_by, instance, line, name}
-use Rattle.headline.specs.View.{Event, told, replied, silent, missed}
+use Rattle.headline.specs.View.{Event, Message, told, replied, silent, missed}
 use Rattle.headline.specs.View.{came, heard, knew, lost, taken, tried}
 
 -- 1. MAPS. An instance is a list of groups, each with its demand and its list of choices, best
@@ -316,20 +316,37 @@ pub record IsLane (w : ℕ) (t : Option Plan) (maps : List Version) (result : St
       × (a.taken ≡ b.taken ++ new) × (a.places ≡ b.places ++ places_of events new)
       × AreMinded b.recvs after.notes.given (map (λ (x : Taken). (x.place, x.known)) new))
 
--- a conversation, and what was taken of it and replied: its octets are these messages from its
--- peer, each behind its length, and more; the replies all go to that peer and, each behind its
--- length, were written to the conversation, up to some octet
-pub record IsTalk (t : Talk) (messages : List Packet) (replies : List Try) : Type 0 where
-  pub from : All (λ p. p.from ≡ t.peer) messages
+-- a piece that was read of a conversation, and the messages that were taken with it
+pub record Round : Type 0 where
+  pub piece : Piece
+  pub messages : List Message
+
+abbrev pub octets_of : List Message → List ℕ
+octets_of messages = flat_map (λ (m : Message). framed m.packet.octets) messages
+
+-- what was held and a piece are its messages, each behind its length, and what is held then; at
+-- each of them the worker knew no older map than when it asked for the piece
+abbrev pub AreRounds : List ℕ → List Round → Type 0
+AreRounds held [] = Unit {0}
+AreRounds held (r ∷ rounds) =
+    (more : List ℕ) × (held ++ r.piece.octets ≡ octets_of r.messages ++ more)
+    × All (λ (m : Message). r.piece.known ≤ m.known) r.messages × AreRounds more rounds
+
+-- a conversation, and what was taken of it and replied: its pieces have these messages from its
+-- peer; the replies all go to that peer and, each behind its length, were written to the
+-- conversation, up to some octet
+pub record IsTalk (t : Talk) (messages : List Message) (replies : List Try) : Type 0 where
+  pub from : All (λ (m : Message). m.packet.from ≡ t.peer) messages
   pub to : All (λ (r : Try). r.to ≡ t.peer) replies
-  pub more : List ℕ
-  pub read : flat_map (λ (x : Piece). x.octets) t.pieces
-      ≡ flat_map (λ (p : Packet). framed p.octets) messages ++ more
+  pub rounds : List Round
+  pub pieces : t.pieces ≡ map (λ (r : Round). r.piece) rounds
+  pub messages_are : messages ≡ flat_map (λ (r : Round). r.messages) rounds
+  pub read : AreRounds [] rounds
   pub cut : ℕ
   pub written : t.written ≡ take cut (flat_map (λ (r : Try). framed r.octets) replies)
 
 pub record Share : Type 0 where
-  pub messages : List Packet
+  pub messages : List Message
   pub replies : List Try
 
 abbrev pub AreTalks : List Talk → List Share → Type 0
@@ -340,7 +357,7 @@ AreTalks (t ∷ talks) (s ∷ shares) = IsTalk t s.messages s.replies × AreTalk
 -- the conversations behind the earlier ones, if none was open: what was taken and replied, one
 -- conversation after another, is this; and at each piece of them the worker minded these notes
 abbrev pub HaveTalked :
-    List Packet → List Try → List Given → StreamsTold → StreamsTold → Type 0
+    List Message → List Try → List Given → StreamsTold → StreamsTold → Type 0
 HaveTalked messages replies notes before after = before.current ≡ None → (talks : List Talk)
     × (shares : List Share) × (after.closed ≡ before.closed ++ talks) × AreTalks talks shares
     × (flat_map (λ (s : Share). s.messages) shares ≡ messages)
