@@ -6,7 +6,7 @@ use Rattle.std.proofs.lemmas.List.{length-map}
 use Rattle.addr_text.specs.declared.address.Listen.{Listen}
 use Rattle.outside.specs.Faults.{BothTell, Rose, raised}
 use Rattle.outside.specs.Port.{IsOpen, PortTold}
-use Rattle.outside.specs.Shelf.{Shelved}
+use Rattle.glb.specs.Loads.{Files}
 use Rattle.outside.specs.Sink.{Written}
 use Rattle.outside.specs.declared.port.Opening.{Opening}
 use Rattle.outside.specs.declared.port.Opening.TheVariants as opening
@@ -191,12 +191,12 @@ first_door (suc n) (x ∷ xs) [] some h = absurd h
 other : (turns : ℕ) (ask : Service) (before after : Lent) (result : Status) → (result ≡ status.PortFault → ⊥) → (result ≡ status.Spent → ⊥) → (result ≡ status.CellFault → ⊥) → HasLaneCauses turns ask before after result
 other turns ask before after result port spent cell = record { port = λ h. absurd (port h); spent = λ h. absurd (spent h); cell = λ h. absurd (cell h) }
 
-pub unread_causes : {T : Type 0} (kind : Kind T) (turns : ℕ) (ask : Service) (before after : Lent) (name : List ℕ) (shelf : Option Shelved) (out out' : Option Written) (result : Status) → RunsBy (IsRefused kind shelf name) out out' result → HasLaneCauses turns ask before after result
-unread_causes kind turns ask before after name shelf out out' result (inl whole) =
+pub unread_causes : {T : Type 0} (kind : Kind T) (turns : ℕ) (ask : Service) (before after : Lent) (name : List ℕ) (files : Option Files) (out out' : Option Written) (result : Status) → RunsBy (IsRefused kind files name) out out' result → HasLaneCauses turns ask before after result
+unread_causes kind turns ask before after name files out out' result (inl whole) =
     let is : whole.due.status ≡ status.Refused = ap (λ (o : Outcome). o.status) whole.is_due.4 in
     let same : result ≡ status.Refused = whole.status ∙ is in other turns ask before after result (λ h. cc) (λ h. cc) (λ h. cc)
-unread_causes kind turns ask before after name shelf out out' result (inr (inl cut)) = let is = cut.status in other turns ask before after result (λ h. cc) (λ h. cc) (λ h. cc)
-unread_causes kind turns ask before after name shelf out out' result (inr (inr silent)) =
+unread_causes kind turns ask before after name files out out' result (inr (inl cut)) = let is = cut.status in other turns ask before after result (λ h. cc) (λ h. cc) (λ h. cc)
+unread_causes kind turns ask before after name files out out' result (inr (inr silent)) =
     elim silent.status [ inl is ↦ other turns ask before after result (λ h. cc) (λ h. cc) (λ h. cc) | inr is ↦ other turns ask before after result (λ h. cc) (λ h. cc) (λ h. cc) ]
 
 -- a fault of the cell is answered only where the feed ended

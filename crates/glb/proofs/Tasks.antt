@@ -13,12 +13,14 @@ use Rattle.glb.specs.declared.status.Status.{Status}
 use Rattle.glb.specs.declared.status.Status.TheVariants as status
 use Rattle.glb.specs.Words.{Service, Task, say, serve, large}
 use Rattle.glb.specs.Told.{Stage, Surroundings, faults_of, stage, surroundings}
-use Rattle.glb.specs.Outcome.{AreLoaded, AreLoadsOf, Faults, HasExactCauses}
+use Rattle.glb.specs.Loads.{AreLoaded, AreLoadsOf, DueLoad, files_between}
+use Rattle.glb.specs.Outcome.{Faults, HasExactCauses}
 use Rattle.glb.specs.Files.{topology_file}
 use Rattle.glb.specs.Serve.{IsServeRun, loads_of_serve}
 use Rattle.glb.specs.Program.{HasServeCauses, IsPromised}
 use Rattle.glb.proofs.Lanes.{unread_causes}
 use Rattle.glb.proofs.Left.{left_of}
+use Rattle.glb.proofs.Loads.{none_made}
 use Rattle.glb.proofs.WellServed.{well_served}
 
 pub promised : (turns : ℕ) (ask : Service) (before after : Surroundings) (result : Status) → IsServeRun turns ask before after result → BothTell before.files after.files (AreLoadsOf (loads_of_serve ask))
@@ -29,7 +31,7 @@ promised turns ask before after result run noted loaded causes = record {
   loaded = loaded;
   causes = causes;
   good = λ ok. well_served turns ask before after (subst (λ (r : Status). IsServeRun turns ask before after r) ok run);
-  complete = λ sound quiet. left_of turns ask before after result run causes sound.0 sound.1 quiet;
+  complete = λ sound quiet. left_of turns ask before after result (AreLoadsOf (loads_of_serve ask)) run causes noted sound quiet;
 }
 
 pub promised_task : (turns : ℕ) (task : Option Task) (ask : Service) (before after : Surroundings) (result : Status) → task ≡ Some (serve ask) → IsPromised turns (Some (serve ask)) before after result → IsPromised turns task before after result
@@ -41,9 +43,9 @@ stays None = tt
 stays (Some w) = refl
 
 -- nothing was loaded
-unloaded : (files : Option Shelved) (due : (List ℕ → Option (List ℕ)) → List Load) → BothTell files files (AreLoadsOf due)
+pub unloaded : (files : Option Shelved) (due : List Load → List DueLoad) → BothTell files files (AreLoadsOf due)
 unloaded None due = tt
-unloaded (Some f) due = record { files = refl; loads = (0, sym (append-nil f.loads)) }
+unloaded (Some f) due = none_made due f f refl refl
 
 -- no count rose, and the answer is want of memory
 none_rose : (f : Faults) → HasExactCauses f f status.NoMemory
@@ -90,7 +92,7 @@ unread turns (Some (serve ask)) s = promised turns ask s s status.NoMemory (inl 
       feed_stays = λ h one. (refl, refl);
       out_stays = λ h. refl;
       maps_stay = λ h. refl;
-      lanes = unread_causes topology_file turns ask s.stage.lent s.stage.lent ask.topology s.files s.stage.lent.out s.stage.lent.out status.NoMemory (inr (inr (record { status = inr refl; puts = stays s.stage.lent.out })));
+      lanes = unread_causes topology_file turns ask s.stage.lent s.stage.lent ask.topology (files_between s.files s.files) s.stage.lent.out s.stage.lent.out status.NoMemory (inr (inr (record { status = inr refl; puts = stays s.stage.lent.out })));
     })
 unread turns (Some (large groups)) s = record {
   run = record { run = inr (inr (record { status = inr refl; puts = stays s.stage.lent.out })); ends = inr (inr refl); files = (refl, refl); rest = record { lent = refl; rest = refl } };

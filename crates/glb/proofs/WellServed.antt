@@ -29,6 +29,7 @@ use Rattle.glb.specs.declared.status.Status.TheVariants as status
 use Rattle.glb.specs.Words.{Service, streams_of}
 use Rattle.glb.specs.Outcome.{Outcome, RunsBy}
 use Rattle.glb.specs.Files.{IsRefused, Says, topology_file}
+use Rattle.glb.specs.Loads.{files_between}
 use Rattle.drive.specs.Driven.{Lent}
 use Rattle.outside.specs.Faults.{BothTell}
 use Rattle.outside.specs.Sink.{Written}
@@ -182,7 +183,7 @@ ok_parts feed.SinkFault p s c h = absurd (cc)
 ok_parts feed.NoMemory p s c h = let parts = by_parts p s true c h in absurd (cc)
 
 -- a session over a topology
-session_well : (turns : ℕ) (ask : Service) (topology : Plan) (before after : Surroundings) → IsPlan topology → Says topology_file before.files ask.topology topology
+session_well : (turns : ℕ) (ask : Service) (topology : Plan) (before after : Surroundings) → IsPlan topology → Says topology_file (files_between before.files after.files) ask.topology topology
     → (placed started : Stage) (first : Version) → IsPlaced ask before.stage placed → IsFirstOf topology first → IsStarted ask first placed started
     → IsServed turns ask first started after.stage status.Ok → IsWellServed turns ask before after
 session_well turns ask topology before after plan says placed started first place is_first start served =
@@ -224,7 +225,7 @@ session_well turns ask topology before after plan says placed started first plac
 pub well_served : (turns : ℕ) (ask : Service) (before after : Surroundings) → IsServeRun turns ask before after status.Ok → IsWellServed turns ask before after
 well_served turns ask before after (inl unread) = absurd (not_read unread.run)
   where
-    not_read : RunsBy (IsRefused topology_file before.files ask.topology) before.stage.lent.out after.stage.lent.out status.Ok → ⊥
+    not_read : RunsBy (IsRefused topology_file (files_between before.files after.files) ask.topology) before.stage.lent.out after.stage.lent.out status.Ok → ⊥
     not_read (inl whole) = let is : whole.due.status ≡ status.Refused = ap (λ (o : Outcome). o.status) whole.is_due.4 in let same = whole.status in cc
     not_read (inr (inl cut)) = let is = cut.status in cc
     not_read (inr (inr silent)) = elim silent.status [ inl is ↦ cc | inr is ↦ cc ]

@@ -1,7 +1,7 @@
 -- How a run comes out, and what it leaves outside.
 use Rattle.std.specs.Prelude.{◌≡◌, ◌≢◌, ℕ, ◌<◌, ◌≤◌, ◌⊎◌, List, [], ◌++◌, length, take, slice_index_or, Option}
 use Rattle.outside.specs.Faults.{BothTell, Rose}
-use Rattle.outside.specs.Shelf.{Load, Shelved}
+use Rattle.outside.specs.Shelf.{Shelved}
 use Rattle.outside.specs.Sink.{Written}
 use Rattle.mapper.specs.Scenes.{IsCutBehind, IsPrinted}
 use Rattle.glb.specs.declared.status.Status.{Status}
@@ -82,16 +82,6 @@ Speaks Due before after result = IsWhole Due before after result ⊎ IsPutInPart
 -- The run of a command that puts its texts at its end. `Due` says which outcomes are due.
 abbrev pub RunsBy : (Outcome → Type 0) → Option Written → Option Written → Status → Type 0
 RunsBy Due before after result = IsWhole Due before after result ⊎ IsPutInPart Due before after result ⊎ IsSilent before after result
-
--- the loads are the first of those that are due over the files, in order and once each, and the files stay
-pub record AreLoadsOf (due : (List ℕ → Option (List ℕ)) → List Load) (before after : Shelved) : Type 0 where
-  pub files : after.holds ≡ before.holds
-  pub loads : (k : ℕ) × (after.loads ≡ before.loads ++ take k (due before.holds))
-
--- all loads that are due over the files were made, in order, and the files stay
-pub record AreLoaded (due : (List ℕ → Option (List ℕ)) → List Load) (before after : Shelved) : Type 0 where
-  pub files : after.holds ≡ before.holds
-  pub loads : after.loads ≡ before.loads ++ due before.holds
 
 -- No count falls, and a fault of the outside is answered only where its count rose.
 pub record HasCauses (before after : Faults) (status : Status) : Type 0 where

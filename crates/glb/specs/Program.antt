@@ -1,11 +1,12 @@
 -- What a run of the whole program does, by what its words ask for.
-use Rattle.std.specs.Prelude.{◌≡◌, ◌≢◌, ◌⊎◌, ℕ, ◌≤◌, List, [], length, Option, None, Some, IsSome}
+use Rattle.std.specs.Prelude.{◌≡◌, ◌≢◌, ◌⊎◌, ℕ, ◌≤◌, List, [], length, Option, None, Some, IsSomeAnd}
 use Rattle.outside.specs.Faults.{BothTell, Rose}
 use Rattle.outside.specs.Shelf.{Load, Shelved}
 use Rattle.glb.specs.declared.status.Status.{Status}
 use Rattle.glb.specs.declared.status.Status.TheVariants as status
 use Rattle.glb.specs.Words.{Ask, Service, Task, say, serve, large}
-use Rattle.glb.specs.Outcome.{AreLoaded, AreLoadsOf, HasExactCauses}
+use Rattle.glb.specs.Loads.{DueLoad, AreLoaded, AreLoadsOf}
+use Rattle.glb.specs.Outcome.{HasExactCauses}
 use Rattle.glb.specs.Run as short
 use Rattle.glb.specs.Serve.{IsServeRun, loads_of_serve}
 use Rattle.drive.specs.Feeds.{AllStand, NoneFell}
@@ -28,7 +29,7 @@ IsProgramRun turns (Some (serve ask)) before after result = IsServeRun turns ask
 IsProgramRun turns (Some (large groups)) before after result = IsLargeRun groups before after result
 
 -- the loads that are due to a run over the files
-abbrev pub loads_of : Option Task → (List ℕ → Option (List ℕ)) → List Load
+abbrev pub loads_of : Option Task → List Load → List DueLoad
 loads_of None = short.loads_of None
 loads_of (Some (say ask)) = short.loads_of (Some ask)
 loads_of (Some (serve ask)) = loads_of_serve ask
@@ -56,11 +57,11 @@ AreCauses turns (Some (say ask)) before after result = HasExactCauses (faults_of
 AreCauses turns (Some (serve ask)) before after result = HasServeCauses turns ask before after result
 AreCauses turns (Some (large groups)) before after result = HasExactCauses (faults_of before) (faults_of after) result
 
--- The files are such that all is well: they are told, and hold what the task asks for. Of `large` nothing is asked of them.
+-- The files are such that all is well: it is told what they hold, and that is what the task asks for. Of `large` nothing is asked of them.
 abbrev pub IsSound : Option Task → Option Shelved → Type 0
 IsSound None files = ⊥
-IsSound (Some (say ask)) files = IsSome files × short.IsSound (Some ask) files
-IsSound (Some (serve ask)) files = IsSome files × HoldsTopology ask.topology files
+IsSound (Some (say ask)) files = IsSomeAnd files (λ f. IsSomeAnd f.holds (short.IsSound (Some ask)))
+IsSound (Some (serve ask)) files = IsSomeAnd files (λ f. IsSomeAnd f.holds (HoldsTopology ask.topology))
 IsSound (Some (large groups)) files = Unit {0}
 
 -- no count of faults rose: of the files, the feeds and both outputs, of a port, the streams or a door of the lanes

@@ -28,10 +28,11 @@ use Rattle.glb.specs.Words.{Service, lanes_of, streams_of}
 use Rattle.glb.specs.Causes.{AnyFeed, AnyServer, HasFeedFault, HasCellFault, HasEightPortFaults, HasHeard, HasTaken}
 use Rattle.glb.specs.Outcome.{RunsBy}
 use Rattle.glb.specs.Told.{IsOutAlone, Stage, Surroundings}
+use Rattle.glb.specs.Loads.{DueLoad, files_between}
 use Rattle.glb.specs.Files.{IsRefused, Says, only, topology_file}
 
 -- the loads of `serve`: the topology
-abbrev pub loads_of_serve : Service → (List ℕ → Option (List ℕ)) → List Load
+abbrev pub loads_of_serve : Service → List Load → List DueLoad
 loads_of_serve ask = only topology_file ask.topology
 
 -- a lane ended by a fault of its port
@@ -223,10 +224,10 @@ IsSession turns ask topology before after result = IsUnopened ask before after r
 
 -- The topology was refused, with its text on the output or a beginning of it; or it could not be loaded, or memory was wanting.
 pub record IsUnread (ask : Service) (before after : Surroundings) (result : Status) : Type 0 where
-  pub run : RunsBy (IsRefused topology_file before.files ask.topology) before.stage.lent.out after.stage.lent.out result
+  pub run : RunsBy (IsRefused topology_file (files_between before.files after.files) ask.topology) before.stage.lent.out after.stage.lent.out result
   pub rest : IsOutAlone before.stage after.stage
 
 -- what a run of `serve` does
 abbrev pub IsServeRun : ℕ → Service → Surroundings → Surroundings → Status → Type 0
 IsServeRun turns ask before after result = IsUnread ask before after result
-    ⊎ ((topology : Plan) × IsPlan topology × Says topology_file before.files ask.topology topology × IsSession turns ask topology before.stage after.stage result)
+    ⊎ ((topology : Plan) × IsPlan topology × Says topology_file (files_between before.files after.files) ask.topology topology × IsSession turns ask topology before.stage after.stage result)

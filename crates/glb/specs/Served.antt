@@ -27,6 +27,7 @@ use Rattle.tcp_lane.specs.Replies.{stream_replies}
 use Rattle.tcp_lane.specs.Stream.{IsStreamRun}
 use Rattle.tcp_lane.specs.Turns.{StreamTurn, TalkState, closing_if, lane_of, lead_of, no_talk, stream_turn}
 use Rattle.glb.specs.Told.{Stage, Surroundings}
+use Rattle.glb.specs.Loads.{files_between}
 use Rattle.glb.specs.Files.{Says, topology_file}
 use Rattle.glb.specs.declared.status.Status.TheVariants as status
 use Rattle.glb.specs.Serve.{IsFirstOf, IsPlaced, IsServed, IsStarted}
@@ -87,7 +88,7 @@ IsStreamWell (Some at) turns history w before after = IsStreamWellDone turns his
 pub record IsWellServed (turns : ℕ) (ask : Service) (before after : Surroundings) : Type 0 where
   pub topology : Plan
   pub is_plan : IsPlan topology
-  pub says : Says topology_file before.files ask.topology topology
+  pub says : Says topology_file (files_between before.files after.files) ask.topology topology
   pub first : Version
   pub rest : List Version
   pub newest : Version
