@@ -13,7 +13,7 @@ use Rattle.stable_check.specs.declared.verdict.Verdict.TheVariants.{Good, BadLin
 use Rattle.glb.specs.declared.status.Status.{Status}
 use Rattle.glb.specs.declared.status.Status.TheVariants as status
 use Rattle.glb.specs.Words.{Ask, check, map_from, places, answer, repair}
-use Rattle.glb.specs.Outcome.{Faults, HasCauses, Outcome, Outside, RunsBy}
+use Rattle.glb.specs.Outcome.{HasCauses, Outcome, Outside, RunsBy}
 use Rattle.glb.specs.Loads.{Files, HaveGiven, files_between}
 use Rattle.glb.specs.Files.{Holds, Kind, Reads, said, changes_file, map_file, topology_file}
 use Rattle.glb.specs.Check.{HoldsGoodMap, IsCheckDue, IsJudged, status_of_verdict}
@@ -104,28 +104,28 @@ well_repaired topology map changes files held due told good h =
     ]
 
 -- the end of a run whose outcome is status 0
-ends_well : (Due : Outcome → Type 0) (before after : Outside) (counts later : Faults) (result : Status) → RunsBy Due before.out after.out result → ((due : Outcome) → Due due → due.status ≡ status.Ok)
-    → HasCauses counts later result → (Rose counts.files later.files → ⊥) → (Rose counts.out later.out → ⊥) → (result ≡ status.Ok) ⊎ (result ≡ status.NoMemory)
-ends_well Due before after counts later result (inl whole) well causes files out = inl (whole.status ∙ well whole.due whole.is_due)
-ends_well Due before after counts later result (inr (inl cut)) well causes files out = absurd (out (causes.sink cut.status))
-ends_well Due before after counts later result (inr (inr silent)) well causes files out = elim silent.status [ inl source ↦ absurd (files (causes.source source)) | inr memory ↦ inr memory ]
+ends_well : (Due : Outcome → Type 0) (before after : Outside) (result : Status) → RunsBy Due before.out.past after.out.past result → ((due : Outcome) → Due due → due.status ≡ status.Ok)
+    → HasCauses before after result → (Rose before.files.faults after.files.faults → ⊥) → (Rose before.out.faults after.out.faults → ⊥) → (result ≡ status.Ok) ⊎ (result ≡ status.NoMemory)
+ends_well Due before after result (inl whole) well causes files out = inl (whole.status ∙ well whole.due whole.is_due)
+ends_well Due before after result (inr (inl cut)) well causes files out = absurd (out (causes.sink cut.status))
+ends_well Due before after result (inr (inr silent)) well causes files out = elim silent.status [ inl source ↦ absurd (files (causes.source source)) | inr memory ↦ inr memory ]
 
 -- a run over a good map
-pub complete_run : (ask : Option Ask) (before after : Outside) (counts later : Faults) (result : Status) (R : Shelved → Shelved → Type 0) → IsSayingRun ask before after result → HasCauses counts later result → BothTell before.files after.files R
-    → IsSomeAnd before.files (λ f. IsSomeAnd f.holds (IsSound ask)) → (Rose counts.files later.files → ⊥) → (Rose counts.out later.out → ⊥) → (result ≡ status.Ok) ⊎ (result ≡ status.NoMemory)
-complete_run None before after counts later result R run causes told sound files out = let s = sound_told (IsSound None) R before.files after.files told sound in absurd s.2
-complete_run (Some (check topology map)) before after counts later result R run causes told sound files out =
-    let s = sound_told (HoldsGoodMap topology map) R before.files after.files told sound in
-    ends_well (IsCheckDue topology map (files_between before.files after.files)) before after counts later result run (λ due h. well_due topology map (files_between before.files after.files) s.0 due s.1 s.2 h) causes files out
-complete_run (Some (map_from topology)) before after counts later result R run causes told sound files out =
-    let s = sound_told (HoldsTopology topology) R before.files after.files told sound in
-    ends_well (IsMapDue topology (files_between before.files after.files)) before after counts later result run (λ due h. (reads_on topology_file (files_between before.files after.files) s.0 topology IsMapped due s.2.0 s.1 s.2.1 h).status) causes files out
-complete_run (Some (places topology)) before after counts later result R run causes told sound files out =
-    let s = sound_told (HoldsTopology topology) R before.files after.files told sound in
-    ends_well (IsPlacesDue topology (files_between before.files after.files)) before after counts later result run (λ due h. (reads_on topology_file (files_between before.files after.files) s.0 topology IsSpreadOut due s.2.0 s.1 s.2.1 h).status) causes files out
-complete_run (Some (answer topology map datagram)) before after counts later result R run causes told sound files out =
-    let s = sound_told (HoldsGoodMap topology map) R before.files after.files told sound in
-    ends_well (IsAnswerDue topology map datagram (files_between before.files after.files)) before after counts later result run (λ due h. well_answered topology map datagram (files_between before.files after.files) s.0 due s.1 s.2 h) causes files out
-complete_run (Some (repair topology map changes)) before after counts later result R run causes told sound files out =
-    let s = sound_told (HoldsChanges topology map changes) R before.files after.files told sound in
-    ends_well (IsRepairDue topology map changes (files_between before.files after.files)) before after counts later result run (λ due h. well_repaired topology map changes (files_between before.files after.files) s.0 due s.1 s.2 h) causes files out
+pub complete_run : (ask : Option Ask) (before after : Outside) (result : Status) (R : Shelved → Shelved → Type 0) → IsSayingRun ask before after result → HasCauses before after result → BothTell before.files.past after.files.past R
+    → IsSomeAnd before.files.past (λ f. IsSomeAnd f.holds (IsSound ask)) → (Rose before.files.faults after.files.faults → ⊥) → (Rose before.out.faults after.out.faults → ⊥) → (result ≡ status.Ok) ⊎ (result ≡ status.NoMemory)
+complete_run None before after result R run causes told sound files out = let s = sound_told (IsSound None) R before.files.past after.files.past told sound in absurd s.2
+complete_run (Some (check topology map)) before after result R run causes told sound files out =
+    let s = sound_told (HoldsGoodMap topology map) R before.files.past after.files.past told sound in
+    ends_well (IsCheckDue topology map (files_between before.files.past after.files.past)) before after result run (λ due h. well_due topology map (files_between before.files.past after.files.past) s.0 due s.1 s.2 h) causes files out
+complete_run (Some (map_from topology)) before after result R run causes told sound files out =
+    let s = sound_told (HoldsTopology topology) R before.files.past after.files.past told sound in
+    ends_well (IsMapDue topology (files_between before.files.past after.files.past)) before after result run (λ due h. (reads_on topology_file (files_between before.files.past after.files.past) s.0 topology IsMapped due s.2.0 s.1 s.2.1 h).status) causes files out
+complete_run (Some (places topology)) before after result R run causes told sound files out =
+    let s = sound_told (HoldsTopology topology) R before.files.past after.files.past told sound in
+    ends_well (IsPlacesDue topology (files_between before.files.past after.files.past)) before after result run (λ due h. (reads_on topology_file (files_between before.files.past after.files.past) s.0 topology IsSpreadOut due s.2.0 s.1 s.2.1 h).status) causes files out
+complete_run (Some (answer topology map datagram)) before after result R run causes told sound files out =
+    let s = sound_told (HoldsGoodMap topology map) R before.files.past after.files.past told sound in
+    ends_well (IsAnswerDue topology map datagram (files_between before.files.past after.files.past)) before after result run (λ due h. well_answered topology map datagram (files_between before.files.past after.files.past) s.0 due s.1 s.2 h) causes files out
+complete_run (Some (repair topology map changes)) before after result R run causes told sound files out =
+    let s = sound_told (HoldsChanges topology map changes) R before.files.past after.files.past told sound in
+    ends_well (IsRepairDue topology map changes (files_between before.files.past after.files.past)) before after result run (λ due h. well_repaired topology map changes (files_between before.files.past after.files.past) s.0 due s.1 s.2 h) causes files out

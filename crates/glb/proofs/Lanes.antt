@@ -4,10 +4,11 @@ use Rattle.std.specs.Prelude.{Option, None, Some, take}
 use Rattle.std.specs.List.{list_any}
 use Rattle.std.proofs.lemmas.List.{length-map}
 use Rattle.addr_text.specs.declared.address.Listen.{Listen}
-use Rattle.outside.specs.Faults.{BothTell, Rose, raised}
+use Rattle.outside.specs.Faults.{BothTell, DeviceState, Rose, raised}
 use Rattle.outside.specs.Port.{IsOpen, PortTold}
 use Rattle.glb.specs.Loads.{Files}
 use Rattle.outside.specs.Sink.{Written}
+use Rattle.outside.specs.Source.{Fed}
 use Rattle.outside.specs.declared.port.Opening.{Opening}
 use Rattle.outside.specs.declared.port.Opening.TheVariants as opening
 use Rattle.topology_text.specs.Plan.{Plan}
@@ -15,20 +16,19 @@ use Rattle.published_map.specs.Version.{Version}
 use Rattle.lane_model.proofs.Runs.{tells_on}
 use Rattle.demand_feed.specs.declared.run.FeedEnd.{FeedEnd}
 use Rattle.demand_feed.specs.declared.run.FeedEnd.TheVariants as feed
-use Rattle.mapper.specs.Scenes.{IsPrinted, scene}
+use Rattle.mapper.specs.Scenes.{IsPrinted}
 use Rattle.mapper.specs.Words.{map_text}
 use Rattle.drive.specs.Done.{LaneTold, StreamLaneTold}
 use Rattle.outside.specs.Streams.{StreamsTold, IsOpening as AreStreamsOpened}
 use Rattle.glb.specs.Words.{Service, lanes_of}
-use Rattle.drive.specs.Driven.{Lent}
-use Rattle.drive.specs.Feeds.{AreFed, FeedTold}
+use Rattle.drive.specs.Driven.{Lent, scene_at}
+use Rattle.drive.specs.Feeds.{AreFed}
 use Rattle.glb.specs.declared.status.Status.{Status}
 use Rattle.glb.specs.declared.status.Status.TheVariants as status
 use Rattle.glb.specs.Causes.{AnyFeed, AnyLane, AnyServer, AreSpent, HasCellFault, HasDoorFault, HasEightPortFaults, HasFeedGiven, HasHeard, HasLaneCauses, HasPortFault, HasShown, HasTaken, IsPastMaps, OfStream}
 use Rattle.glb.specs.Outcome.{Outcome, RunsBy}
 use Rattle.glb.specs.Files.{Kind, IsRefused}
 use Rattle.glb.specs.Serve.{AreOpened, FirstDoorRose, IsFirstSession, IsOpening, IsPlaced, IsServed, IsSession, IsStarted, IsStreamReady, IsStreamShut, PlacedFirst, all_ends, all_ready, is_cell_fault, is_port_fault, is_spent, status_by, status_of, then_failed}
-use Rattle.glb.specs.Told.{Stage}
 use Rattle.glb.proofs.Loads.{tell_weaker}
 use Rattle.glb.proofs.Histories.{texts_of}
 use Rattle.glb.proofs.Named.{any_taken, given_from}
@@ -217,87 +217,87 @@ cell_ends feed.SinkFault p s c h = absurd (cc)
 cell_ends feed.NoMemory p s c h = absurd (by_memory p s c h)
 
 -- a session that was started and served
-served_causes : (turns : ℕ) (ask : Service) (first : Version) (before started after : Stage) (result : Status) → IsStarted ask first before started → IsServed turns ask first started after result → HasLaneCauses turns ask before.lent after.lent result
+served_causes : (turns : ℕ) (ask : Service) (first : Version) (before started after : Lent) (result : Status) → IsStarted ask first before started → IsServed turns ask first started after result → HasLaneCauses turns ask before after result
 served_causes turns ask first before started after result start served = record {
-  port = λ h. eight_from ask before.lent started.lent after.lent begun (served.port h);
+  port = λ h. eight_from ask before started after begun (served.port h);
   spent = λ h. spent_of (served.spent h);
-  cell = λ h. cell_of h (server_parts (length (first ∷ served.driven.rest)) ask started.lent after.lent (served.cell h));
+  cell = λ h. cell_of h (server_parts (length (first ∷ served.driven.rest)) ask started after (served.cell h));
 }
   where
-    begun : AreAllBegun before.lent started.lent
-    begun = record { lanes = opened_begun ask.listen (all_ready ask.workers) before.lent.lanes started.lent.lanes start.opened; stream = stream_begun ask.tcp before.lent.stream started.lent.stream start.stream }
+    begun : AreAllBegun before started
+    begun = record { lanes = opened_begun ask.listen (all_ready ask.workers) before.lanes started.lanes start.opened; stream = stream_begun ask.tcp before.stream started.stream start.stream }
 
     count : ℕ
     count = length ask.more
 
-    same_feed : started.lent.feed ≡ before.lent.feed
-    same_feed = ap (λ (l : Lent). l.feed) start.lent
+    same_feed : started.feed ≡ before.feed
+    same_feed = ap (λ (l : Lent). l.feed) start.rest
 
-    spent_of : (served.end ≡ feed.Spent) ⊎ AnyServer ask (HasTaken turns) (HasHeard turns) started.lent after.lent → AreSpent turns ask before.lent after.lent
-    spent_of (inl is) = elim (fed_given first.plan turns served.end started.lent.feed after.lent.feed (take count started.lent.more) (take count after.lent.more) _ _ is served.driven.feed) [
-      | inl given ↦ inl (subst (λ (f : FeedTold). HasFeedGiven turns f after.lent.feed) same_feed given)
-      | inr given ↦ inr (inl (given_from turns count count before.lent.more started.lent.more after.lent.more start.named.feeds (any_taken (HasFeedGiven turns) count started.lent.more after.lent.more given)))
+    spent_of : (served.end ≡ feed.Spent) ⊎ AnyServer ask (HasTaken turns) (HasHeard turns) started after → AreSpent turns ask before after
+    spent_of (inl is) = elim (fed_given first.plan turns served.end started.feed after.feed (take count started.more) (take count after.more) _ _ is served.driven.feed) [
+      | inl given ↦ inl (subst (λ (f : DeviceState Fed). HasFeedGiven turns f after.feed) same_feed given)
+      | inr given ↦ inr (inl (given_from turns ask.more count count before.more started.more after.more start.named (any_taken (HasFeedGiven turns) count started.more after.more given)))
     ]
-    spent_of (inr h) = inr (inr (taken_from turns ask before.lent started.lent after.lent begun h))
+    spent_of (inr h) = inr (inr (taken_from turns ask before started after begun h))
 
     ended : result ≡ status.CellFault → served.end ≡ feed.Ended
     ended h = cell_ends served.end (list_any is_port_fault (all_ends served.ends served.stream_end)) (list_any is_spent (all_ends served.ends served.stream_end)) (list_any is_cell_fault (all_ends served.ends served.stream_end)) (sym h ∙ served.result_is)
 
-    texts : served.end ≡ feed.Ended → BothTell before.lent.maps after.lent.maps (IsPrinted (map map_text (first ∷ served.driven.rest)))
-    texts is = texts_of first.plan turns started.lent.feed after.lent.feed (take count started.lent.more) (take count after.lent.more) first served.driven.rest before.lent.maps (scene first (first ∷ []) started.lent.out started.lent.maps started.lent.pace) (scene served.driven.newest (first ∷ served.driven.rest) after.lent.out after.lent.maps after.lent.pace) refl refl start.put
-        (subst (λ (e : FeedEnd). AreFed first.plan turns e started.lent.feed (take count started.lent.more) after.lent.feed (take count after.lent.more) (scene first (first ∷ []) started.lent.out started.lent.maps started.lent.pace) (scene served.driven.newest (first ∷ served.driven.rest) after.lent.out after.lent.maps after.lent.pace)) is served.driven.feed)
+    texts : served.end ≡ feed.Ended → BothTell before.maps.past after.maps.past (IsPrinted (map map_text (first ∷ served.driven.rest)))
+    texts is = texts_of first.plan turns started.feed after.feed (take count started.more) (take count after.more) first served.driven.rest before.maps.past (scene_at first (first ∷ []) started) (scene_at served.driven.newest (first ∷ served.driven.rest) after) refl refl start.put
+        (subst (λ (e : FeedEnd). AreFed first.plan turns e started.feed (take count started.more) after.feed (take count after.more) (scene_at first (first ∷ []) started) (scene_at served.driven.newest (first ∷ served.driven.rest) after)) is served.driven.feed)
 
-    cell_of : result ≡ status.CellFault → AnyServer ask HasDoorFault HasDoorFault started.lent after.lent ⊎ AnyServer ask (HasShown (length (first ∷ served.driven.rest))) (HasShown (length (first ∷ served.driven.rest))) started.lent after.lent
-        → AnyServer ask HasDoorFault HasDoorFault before.lent after.lent ⊎ IsPastMaps ask before.lent after.lent
-    cell_of is (inl h) = inl (door_from ask before.lent started.lent after.lent begun h)
+    cell_of : result ≡ status.CellFault → AnyServer ask HasDoorFault HasDoorFault started after ⊎ AnyServer ask (HasShown (length (first ∷ served.driven.rest))) (HasShown (length (first ∷ served.driven.rest))) started after
+        → AnyServer ask HasDoorFault HasDoorFault before after ⊎ IsPastMaps ask before after
+    cell_of is (inl h) = inl (door_from ask before started after begun h)
     cell_of is (inr h) = inr (
       map map_text (first ∷ served.driven.rest),
       texts (ended is),
-      subst (λ (k : ℕ). AnyServer ask (HasShown k) (HasShown k) before.lent after.lent) (sym (length-map (first ∷ served.driven.rest) map_text)) (shown_from (length (first ∷ served.driven.rest)) ask before.lent started.lent after.lent begun h),
+      subst (λ (k : ℕ). AnyServer ask (HasShown k) (HasShown k) before after) (sym (length-map (first ∷ served.driven.rest) map_text)) (shown_from (length (first ∷ served.driven.rest)) ask before started after begun h),
     )
 
-first_causes : (turns : ℕ) (ask : Service) (first : Version) (before after : Stage) (result : Status) → IsFirstSession turns ask first before after result → HasLaneCauses turns ask before.lent after.lent result
+first_causes : (turns : ℕ) (ask : Service) (first : Version) (before after : Lent) (result : Status) → IsFirstSession turns ask first before after result → HasLaneCauses turns ask before after result
 first_causes turns ask first before after result (inl shut) = record {
-  port = λ h. elim shut.opened [ inl some ↦ inl (failed_port ask.listen some.0 ask.workers before.lent.lanes after.lent.lanes some.1 some.2) | inr all ↦ inr (failed_stream ask.tcp before.lent.stream after.lent.stream all.1) ];
+  port = λ h. elim shut.opened [ inl some ↦ inl (failed_port ask.listen some.0 ask.workers before.lanes after.lanes some.1 some.2) | inr all ↦ inr (failed_stream ask.tcp before.stream after.stream all.1) ];
   spent = λ h. let is = shut.why in absurd (cc);
   cell = λ h. let is = shut.why in absurd (cc);
 }
-first_causes turns ask first before after result (inr (inl shut)) = let is = shut.why in other turns ask before.lent after.lent result (λ h. cc) (λ h. cc) (λ h. cc)
-first_causes turns ask first before after result (inr (inr (inl unput))) = let is = unput.why in other turns ask before.lent after.lent result (λ h. cc) (λ h. cc) (λ h. cc)
-first_causes turns ask first before after result (inr (inr (inr (inl k)))) = let is = k.0 in other turns ask before.lent after.lent result (λ h. cc) (λ h. cc) (λ h. cc)
+first_causes turns ask first before after result (inr (inl shut)) = let is = shut.why in other turns ask before after result (λ h. cc) (λ h. cc) (λ h. cc)
+first_causes turns ask first before after result (inr (inr (inl unput))) = let is = unput.why in other turns ask before after result (λ h. cc) (λ h. cc) (λ h. cc)
+first_causes turns ask first before after result (inr (inr (inr (inl k)))) = let is = k.0 in other turns ask before after result (λ h. cc) (λ h. cc) (λ h. cc)
 first_causes turns ask first before after result (inr (inr (inr (inr (started, start, served))))) = served_causes turns ask first before started after result start served
 
 -- what is so from the opened cell on is so from before it
-placed_causes : (turns : ℕ) (ask : Service) (before placed after : Stage) (result : Status) → IsPlaced ask before placed → HasLaneCauses turns ask placed.lent after.lent result → HasLaneCauses turns ask before.lent after.lent result
+placed_causes : (turns : ℕ) (ask : Service) (before placed after : Lent) (result : Status) → IsPlaced ask before placed → HasLaneCauses turns ask placed after result → HasLaneCauses turns ask before after result
 placed_causes turns ask before placed after result place causes = record {
-  port = λ h. port_from ask before.lent placed.lent after.lent begun (causes.port h);
+  port = λ h. port_from ask before placed after begun (causes.port h);
   spent = λ h. elim (causes.spent h) [
-    | inl given ↦ inl (subst (λ (f : FeedTold). HasFeedGiven turns f after.lent.feed) same_feed given)
-    | inr (inl given) ↦ inr (inl (subst (λ (fs : List FeedTold). AnyFeed (length ask.more) (HasFeedGiven turns) fs after.lent.more) (ap (λ (l : Lent). l.more) place.lent) given))
-    | inr (inr some) ↦ inr (inr (taken_from turns ask before.lent placed.lent after.lent begun some))
+    | inl given ↦ inl (subst (λ (f : DeviceState Fed). HasFeedGiven turns f after.feed) same_feed given)
+    | inr (inl given) ↦ inr (inl (subst (λ (fs : List (DeviceState Fed)). AnyFeed (length ask.more) (HasFeedGiven turns) fs after.more) (ap (λ (l : Lent). l.more) place.rest) given))
+    | inr (inr some) ↦ inr (inr (taken_from turns ask before placed after begun some))
   ];
   cell = λ h. elim (causes.cell h) [
-    | inl some ↦ inl (door_from ask before.lent placed.lent after.lent begun some)
-    | inr past ↦ inr (past.0, subst (λ (m : Option Written). BothTell m after.lent.maps (IsPrinted past.0)) same_maps past.1, shown_from (length past.0) ask before.lent placed.lent after.lent begun past.2)
+    | inl some ↦ inl (door_from ask before placed after begun some)
+    | inr past ↦ inr (past.0, subst (λ (m : DeviceState Written). BothTell m.past after.maps.past (IsPrinted past.0)) same_maps past.1, shown_from (length past.0) ask before placed after begun past.2)
   ];
 }
   where
-    begun : AreAllBegun before.lent placed.lent
-    begun = record { lanes = door_begun (lanes_of ask) before.lent.lanes placed.lent.lanes place.asked; stream = stream_same before.lent.stream placed.lent.stream (ap (λ (l : Lent). l.stream) place.lent) }
+    begun : AreAllBegun before placed
+    begun = record { lanes = door_begun (lanes_of ask) before.lanes placed.lanes place.asked; stream = stream_same before.stream placed.stream (ap (λ (l : Lent). l.stream) place.rest) }
 
-    same_feed : placed.lent.feed ≡ before.lent.feed
-    same_feed = ap (λ (l : Lent). l.feed) place.lent
+    same_feed : placed.feed ≡ before.feed
+    same_feed = ap (λ (l : Lent). l.feed) place.rest
 
-    same_maps : placed.lent.maps ≡ before.lent.maps
-    same_maps = ap (λ (l : Lent). l.maps) place.lent
+    same_maps : placed.maps ≡ before.maps
+    same_maps = ap (λ (l : Lent). l.maps) place.rest
 
-pub session_causes : (turns : ℕ) (ask : Service) (t : Plan) (before after : Stage) (result : Status) → 1 ≤ ask.workers → IsSession turns ask t before after result → HasLaneCauses turns ask before.lent after.lent result
+pub session_causes : (turns : ℕ) (ask : Service) (t : Plan) (before after : Lent) (result : Status) → 1 ≤ ask.workers → IsSession turns ask t before after result → HasLaneCauses turns ask before after result
 session_causes turns ask t before after result some (inl unopened) = elim unopened.why [
-  | inl is ↦ other turns ask before.lent after.lent result (λ h. cc) (λ h. cc) (λ h. cc)
+  | inl is ↦ other turns ask before after result (λ h. cc) (λ h. cc) (λ h. cc)
   | inr is ↦ record {
     port = λ h. let fault = is.0 in absurd (cc);
     spent = λ h. let fault = is.0 in absurd (cc);
-    cell = λ h. inl (inl (first_door ask.workers before.lent.lanes after.lent.lanes some is.1));
+    cell = λ h. inl (inl (first_door ask.workers before.lanes after.lanes some is.1));
   }
 ]
 session_causes turns ask t before after result some (inr (placed, first, place, is_first, session)) = placed_causes turns ask before placed after result place (first_causes turns ask first placed after result session)

@@ -48,8 +48,8 @@ served_left feed.Ended p s c result is source sink port = by_left result p s fal
 served_left feed.Spent p s c result is source sink port = by_left result p true false c is port
 
 -- what is left of the answers, by their causes
-pub left_of : (turns : ℕ) (ask : Service) (before after : Surroundings) (result : Status) (R : Shelved → Shelved → Type 0) → IsServeRun turns ask before after result → HasServeCauses turns ask before after result → BothTell before.files after.files R
-    → IsSomeAnd before.files (λ f. IsSomeAnd f.holds (HoldsTopology ask.topology)) → IsServeQuiet ask before after → IsLeft turns (Some (serve ask)) before after result
+pub left_of : (turns : ℕ) (ask : Service) (before after : Surroundings) (result : Status) (R : Shelved → Shelved → Type 0) → IsServeRun turns ask before after result → HasServeCauses turns ask before after result → BothTell before.files.past after.files.past R
+    → IsSomeAnd before.files.past (λ f. IsSomeAnd f.holds (HoldsTopology ask.topology)) → IsServeQuiet ask before after → IsLeft turns (Some (serve ask)) before after result
 left_of turns ask before after result R run causes told sound quiet = elim (go run) [
   | inl h ↦ inl h
   | inr (inl h) ↦ inr (inl h)
@@ -66,14 +66,14 @@ left_of turns ask before after result R run causes told sound quiet = elim (go r
     port : result ≡ status.PortFault → ⊥
     port h = quiet.ports (causes.lanes.port h)
 
-    past : AnyServer ask HasDoorFault HasDoorFault before.stage.lent after.stage.lent ⊎ IsPastMaps ask before.stage.lent after.stage.lent → IsPastMaps ask before.stage.lent after.stage.lent
+    past : AnyServer ask HasDoorFault HasDoorFault before.lent after.lent ⊎ IsPastMaps ask before.lent after.lent → IsPastMaps ask before.lent after.lent
     past (inl h) = absurd (quiet.doors h)
     past (inr h) = h
 
     go : IsServeRun turns ask before after result → (result ≡ status.Ok) ⊎ (result ≡ status.NoMemory) ⊎ (result ≡ status.Spent) ⊎ (result ≡ status.CellFault)
     go (inl unread) =
-        let s = sound_told (HoldsTopology ask.topology) R before.files after.files told sound in
-        unread_left ask.topology (files_between before.files after.files) s.0 before.stage.lent.out after.stage.lent.out result s.1 s.2 source sink unread.run
+        let s = sound_told (HoldsTopology ask.topology) R before.files.past after.files.past told sound in
+        unread_left ask.topology (files_between before.files.past after.files.past) s.0 before.lent.out.past after.lent.out.past result s.1 s.2 source sink unread.run
     go (inr (topology, plan, says, inl unopened)) = elim unopened.why [ inl h ↦ inr (inl h) | inr h ↦ inr (inr (inr h.0)) ]
     go (inr (topology, plan, says, inr (placed, first, place, is_first, inl shut))) = absurd (port shut.why)
     go (inr (topology, plan, says, inr (placed, first, place, is_first, inr (inl shut)))) = absurd (source shut.why)

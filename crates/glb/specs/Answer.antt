@@ -54,5 +54,5 @@ IsAnswerDue topology map d files = Reads topology_file files topology (λ t. Rea
 -- What status 0 of `answer` says of the files and the output: the octets that were loaded say a topology and a map that is good for its instance, and the output got the text of that map's reply, in one put.
 abbrev pub IsAnsweredRun : List ℕ → List ℕ → Datagram → Outside → Outside → Type 0
 IsAnsweredRun topology map d before after =
-    (t : Plan) × (m : Mapped) × (pieces : List (List ℕ)) × IsPlan t × Says topology_file (files_between before.files after.files) topology t × Says (map_file t) (files_between before.files after.files) map m × AreReply t m d pieces
-    × BothTell before.out after.out (IsPrinted pieces)
+    (t : Plan) × (m : Mapped) × (pieces : List (List ℕ)) × IsPlan t × Says topology_file (files_between before.files.past after.files.past) topology t × Says (map_file t) (files_between before.files.past after.files.past) map m × AreReply t m d pieces
+    × BothTell before.out.past after.out.past (IsPrinted pieces)

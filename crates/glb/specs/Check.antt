@@ -35,7 +35,7 @@ HoldsGoodMap topology map held = (t : Plan) × (m : Mapped) × Holds topology_fi
 -- What status 0 of `check` says of the files and the output: the octets that were loaded say a topology and a map that is good for its instance, and the output got `good`, in one put.
 abbrev pub IsCheckedRun : List ℕ → List ℕ → Outside → Outside → Type 0
 IsCheckedRun topology map before after =
-    (t : Plan) × (m : Mapped) × IsPlan t × Says topology_file (files_between before.files after.files) topology t × Says (map_file t) (files_between before.files after.files) map m × IsGood t.market m.lines m.names × BothTell before.out after.out (IsPrinted (text.good ∷ []))
+    (t : Plan) × (m : Mapped) × IsPlan t × Says topology_file (files_between before.files.past after.files.past) topology t × Says (map_file t) (files_between before.files.past after.files.past) map m × IsGood t.market m.lines m.names × BothTell before.out.past after.out.past (IsPrinted (text.good ∷ []))
 
 -- the loads of `check`: the topology, and where that says something the map
 abbrev pub loads_of_check : List ℕ → List ℕ → List Load → List DueLoad

@@ -33,7 +33,7 @@ HoldsTopology topology held = (t : Plan) × Holds topology_file held topology t
 -- What status 0 of `map` says of the files and the output: the octets that were loaded say a topology, and the output got the text of a map that is good for its instance, mapped from scratch, in one put.
 abbrev pub IsMappedRun : List ℕ → Outside → Outside → Type 0
 IsMappedRun topology before after =
-    (t : Plan) × (pieces : List (List ℕ)) × IsPlan t × Says topology_file (files_between before.files after.files) topology t × AreGoodMap t pieces × BothTell before.out after.out (IsPrinted pieces)
+    (t : Plan) × (pieces : List (List ℕ)) × IsPlan t × Says topology_file (files_between before.files.past after.files.past) topology t × AreGoodMap t pieces × BothTell before.out.past after.out.past (IsPrinted pieces)
 
 -- the loads of `map`: the topology
 abbrev pub loads_of_map : List ℕ → List Load → List DueLoad

@@ -29,7 +29,7 @@ IsPlacesDue topology files = Reads topology_file files topology IsSpreadOut
 -- What status 0 of `places` says of the files and the output: the octets that were loaded say a topology, and the output got, in one put, how many units stand at each place by a group-best map of its instance.
 abbrev pub IsPlacesRun : List ℕ → Outside → Outside → Type 0
 IsPlacesRun topology before after =
-    (t : Plan) × (pieces : List (List ℕ)) × IsPlan t × Says topology_file (files_between before.files after.files) topology t × AreBestPlaces t pieces × BothTell before.out after.out (IsPrinted pieces)
+    (t : Plan) × (pieces : List (List ℕ)) × IsPlan t × Says topology_file (files_between before.files.past after.files.past) topology t × AreBestPlaces t pieces × BothTell before.out.past after.out.past (IsPrinted pieces)
 
 -- the loads of `places`: the topology
 abbrev pub loads_of_places : List ℕ → List Load → List DueLoad

@@ -53,8 +53,8 @@ HoldsChanges topology map changes held =
 -- What status 0 of `repair` says of the files and the output: the octets that were loaded say a topology, a map that is good for its instance, and changes of it, and the output got the text of the repaired map, in one put.
 abbrev pub IsRepairedRun : List ℕ → List ℕ → List ℕ → Outside → Outside → Type 0
 IsRepairedRun topology map changes before after =
-    (t : Plan) × (m : Mapped) × (c : List Change) × (pieces : List (List ℕ)) × IsPlan t × Says topology_file (files_between before.files after.files) topology t × Says (map_file t) (files_between before.files after.files) map m × Says (changes_file t) (files_between before.files after.files) changes c
-    × AreRepaired t m c pieces × BothTell before.out after.out (IsPrinted pieces)
+    (t : Plan) × (m : Mapped) × (c : List Change) × (pieces : List (List ℕ)) × IsPlan t × Says topology_file (files_between before.files.past after.files.past) topology t × Says (map_file t) (files_between before.files.past after.files.past) map m × Says (changes_file t) (files_between before.files.past after.files.past) changes c
+    × AreRepaired t m c pieces × BothTell before.out.past after.out.past (IsPrinted pieces)
 
 -- the loads of `repair`: the topology, where that says something the map, and where that does the changes
 abbrev pub loads_of_repair : List ℕ → List ℕ → List ℕ → List Load → List DueLoad

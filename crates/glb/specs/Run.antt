@@ -34,8 +34,8 @@ pub record AreWordsUnread (before after : Option Written) (result : Status) : Ty
 
 -- what a run does
 abbrev pub IsSayingRun : Option Ask → Outside → Outside → Status → Type 0
-IsSayingRun None before after result = Speaks IsUsage before.out after.out result ⊎ AreWordsUnread before.out after.out result
-IsSayingRun (Some ask) before after result = RunsBy (IsDue ask (files_between before.files after.files)) before.out after.out result
+IsSayingRun None before after result = Speaks IsUsage before.out.past after.out.past result ⊎ AreWordsUnread before.out.past after.out.past result
+IsSayingRun (Some ask) before after result = RunsBy (IsDue ask (files_between before.files.past after.files.past)) before.out.past after.out.past result
 
 -- the loads that are due to a command over the files: in the order of its words with their limits, each where all before it say something
 abbrev pub loads_of_ask : Ask → List Load → List DueLoad

@@ -14,10 +14,10 @@ use Rattle.lane_model.specs.Replies.{replies}
 use Rattle.lane_model.specs.Calls.{IsEnd, IsGateRun}
 use Rattle.lane_model.specs.Turns.{IsFated, IsTold, Turn, entries_of, failures, notes_turn, port_turn, tries_of}
 use Rattle.demand_feed.specs.declared.run.FeedEnd.TheVariants as feed
-use Rattle.mapper.specs.Scenes.{IsPrinted, scene}
+use Rattle.mapper.specs.Scenes.{IsPrinted}
 use Rattle.mapper.specs.Words.{map_text}
 use Rattle.drive.specs.Done.{LaneTold, StreamLaneTold, floor_behind}
-use Rattle.drive.specs.Driven.{Succeeds}
+use Rattle.drive.specs.Driven.{Lent, Succeeds, scene_at}
 use Rattle.drive.specs.Feeds.{AreFed}
 use Rattle.glb.specs.Words.{Service}
 use Rattle.addr_text.specs.declared.address.Listen.{Listen}
@@ -26,7 +26,7 @@ use Rattle.tcp_lane.specs.Calls.{AreRuled, IsStreamEnd}
 use Rattle.tcp_lane.specs.Replies.{stream_replies}
 use Rattle.tcp_lane.specs.Stream.{IsStreamRun}
 use Rattle.tcp_lane.specs.Turns.{StreamTurn, TalkState, closing_if, lane_of, lead_of, no_talk, stream_turn}
-use Rattle.glb.specs.Told.{Stage, Surroundings}
+use Rattle.glb.specs.Told.{Surroundings}
 use Rattle.glb.specs.Loads.{files_between}
 use Rattle.glb.specs.Files.{Says, topology_file}
 use Rattle.glb.specs.declared.status.Status.TheVariants as status
@@ -88,20 +88,20 @@ IsStreamWell (Some at) turns history w before after = IsStreamWellDone turns his
 pub record IsWellServed (turns : ℕ) (ask : Service) (before after : Surroundings) : Type 0 where
   pub topology : Plan
   pub is_plan : IsPlan topology
-  pub says : Says topology_file (files_between before.files after.files) ask.topology topology
+  pub says : Says topology_file (files_between before.files.past after.files.past) ask.topology topology
   pub first : Version
   pub rest : List Version
   pub newest : Version
   pub is_first : IsFirstOf topology first
   pub goes_on : GoesOn Succeeds (first ∷ []) rest
-  pub texts : BothTell before.stage.lent.maps after.stage.lent.maps (IsPrinted (map map_text (first ∷ rest)))
-  pub placed : Stage
-  pub started : Stage
-  pub place : IsPlaced ask before.stage placed
+  pub texts : BothTell before.lent.maps.past after.lent.maps.past (IsPrinted (map map_text (first ∷ rest)))
+  pub placed : Lent
+  pub started : Lent
+  pub place : IsPlaced ask before.lent placed
   pub start : IsStarted ask first placed started
-  pub fed : AreFed topology turns feed.Ended started.lent.feed (take (length ask.more) started.lent.more) after.stage.lent.feed (take (length ask.more) after.stage.lent.more) (scene first (first ∷ []) started.lent.out started.lent.maps started.lent.pace) (scene newest (first ∷ rest) after.stage.lent.out after.stage.lent.maps after.stage.lent.pace)
-  pub lanes : AreWellDone turns (first ∷ rest) 0 ask.workers started.lent.lanes after.stage.lent.lanes
-  pub stream : IsStreamWell ask.tcp turns (first ∷ rest) ask.workers started.lent.stream after.stage.lent.stream
+  pub fed : AreFed topology turns feed.Ended started.feed (take (length ask.more) started.more) after.lent.feed (take (length ask.more) after.lent.more) (scene_at first (first ∷ []) started) (scene_at newest (first ∷ rest) after.lent)
+  pub lanes : AreWellDone turns (first ∷ rest) 0 ask.workers started.lanes after.lent.lanes
+  pub stream : IsStreamWell ask.tcp turns (first ∷ rest) ask.workers started.stream after.lent.stream
   -- what the run did behind its start, over this same history
-  pub served : IsServed turns ask first started after.stage status.Ok
+  pub served : IsServed turns ask first started after.lent status.Ok
   pub one : served.driven.rest ≡ rest

@@ -55,24 +55,20 @@ pub fn run_files<F: Shelf, K: Sink>(
     out: &mut K,
 ) -> Status
     ensures run { IsSayingRun (option_map ask_of command.entry)
-        (record { files = (F.told files.old).past; out = (K.told out.old).past })
-        (record { files = (F.told files.new).past; out = (K.told out.new).past }) result }
+        (record { files = F.told files.old; out = K.told out.old })
+        (record { files = F.told files.new; out = K.told out.new }) result }
     ensures noted { BothTell (F.told files.old).past (F.told files.new).past
         (AreLoadsOf (loads_of (option_map ask_of command.entry))) }
     ensures loaded { result ≢ Status.SourceFault → result ≢ Status.NoMemory
         → BothTell (F.told files.old).past (F.told files.new).past
         (AreLoaded (loads_of (option_map ask_of command.entry))) }
-    ensures causes { HasExactCauses (record {
-      files = (F.told files.old).faults;
-      out = (K.told out.old).faults;
-    }) (record {
-      files = (F.told files.new).faults;
-      out = (K.told out.new).faults;
-    }) result }
+    ensures causes { HasExactCauses
+        (record { files = F.told files.old; out = K.told out.old })
+        (record { files = F.told files.new; out = K.told out.new }) result }
     ensures good { result ≡ Status.Ok
         → IsGoodRun (option_map ask_of command.entry)
-        (record { files = (F.told files.old).past; out = (K.told out.old).past })
-        (record { files = (F.told files.new).past; out = (K.told out.new).past }) }
+        (record { files = F.told files.old; out = K.told out.old })
+        (record { files = F.told files.new; out = K.told out.new }) }
     ensures complete { IsSomeAnd (F.told files.old).past
         (λ f. IsSomeAnd f.holds (IsSound (option_map ask_of command.entry)))
         → ¬ Rose (F.told files.old).faults (F.told files.new).faults

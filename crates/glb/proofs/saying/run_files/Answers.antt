@@ -3,7 +3,7 @@ use Rattle.std.specs.Option.{option_map}
 use Rattle.outside.specs.Faults.{BothTell}
 use Rattle.glb.specs.Commands.{ask_of}
 use Rattle.glb.specs.Loads.{AreLoaded, AreLoadsOf}
-use Rattle.glb.specs.Outcome.{Faults, Outside}
+use Rattle.glb.specs.Outcome.{Outside}
 use Rattle.glb.specs.Run.{loads_of}
 use Rattle.glb.specs.Words.{Ask}
 use Rattle.glb.proofs.Complete.{complete_run}
@@ -27,9 +27,7 @@ returns-in-Some-clause-good g c = good_run _ _ _ _ (search rules)
 
 pub returns-in-Some-clause-complete : goal.returns-in-Some-clause-complete
 returns-in-Some-clause-complete g c =
-    let before : Outside = record { files = (g.F.Shelf.told c.args.files.now).past; out = (g.K.Sink.told c.args.out.now).past } in
-    let after : Outside = record { files = (g.F.Shelf.told c.run_command-ended.new.files).past; out = (g.K.Sink.told c.finish.new.out).past } in
-    let counts : Faults = record { files = (g.F.Shelf.told c.args.files.now).faults; out = (g.K.Sink.told c.args.out.now).faults } in
-    let later : Faults = record { files = (g.F.Shelf.told c.run_command-ended.new.files).faults; out = (g.K.Sink.told c.finish.new.out).faults } in
-    complete_run (option_map ask_of c.args.command) before after counts later c.finish.result (AreLoadsOf (loads_of (option_map ask_of c.args.command))) (search rules) (search rules)
+    let before : Outside = record { files = g.F.Shelf.told c.args.files.now; out = g.K.Sink.told c.args.out.now } in
+    let after : Outside = record { files = g.F.Shelf.told c.run_command-ended.new.files; out = g.K.Sink.told c.finish.new.out } in
+    complete_run (option_map ask_of c.args.command) before after c.finish.result (AreLoadsOf (loads_of (option_map ask_of c.args.command))) (search rules) (search rules)
     (subst (λ (a : Option Ask). BothTell (g.F.Shelf.told c.args.files.now).past (g.F.Shelf.told c.run_command-ended.new.files).past (AreLoadsOf (loads_of a))) (ap (option_map ask_of) (sym c.in-Some.is)) c.run_command-ended.ensures.end.noted)
