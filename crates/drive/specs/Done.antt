@@ -43,7 +43,7 @@ abbrev pub floor_behind : ℕ → List Turn → ℕ
 floor_behind floor [] = floor
 floor_behind floor (t ∷ log) = floor_behind (floor_after t.known t.came) log
 
--- A lane stands over the mapper's history, in which all that it knew has its place;
+-- A lane stands over the mapper's history, in which all that it knew has its place, as each lane does where `glb` answers status 0;
 pub record IsOverNewest {T : Type 0} (h over : List Version) (log : List Turn) (served ended : Ended) (before after : ServerTold T) : Type 0 where
   pub same : over ≡ h
   pub known : All (λ t. t.known < length h) log
@@ -52,7 +52,7 @@ pub record IsOverNewest {T : Type 0} (h over : List Version) (log : List Turn) (
   pub stays : sum_by (λ t. refused_of t.came) log ≡ 0 → after.door_faults ≡ before.door_faults
   pub ended_is : ended ≡ served
 
--- or, where its closing look was refused, over what it had seen, which is a history from the same first version on, of which and the mapper's history one begins the other, and then, if a look at a datagram was refused too, its door counted both;
+-- or, where its closing look was refused (its end is a fault of the cell or of the port, of which `glb` answers 9 or 5, or a status that comes before these), over what it had seen, which is a history from the same first version on, of which and the mapper's history one begins the other, and then, if a look at a datagram was refused too, its door counted both;
 pub record IsOverSeen {T : Type 0} (first : Version) (h over : List Version) (served ended : Ended) (before after : ServerTold T) : Type 0 where
   pub first_is : IsPrefix (first ∷ []) over
   pub beside : IsPrefix over h ⊎ IsPrefix h over
@@ -61,7 +61,7 @@ pub record IsOverSeen {T : Type 0} (first : Version) (h over : List Version) (se
   pub twice : served ≡ CellFault → raised before.door_faults 2 ≤ after.door_faults
   pub ended_is : ended ≡ shut served
 
--- or, where that look was past the newest map, over a history that goes on from the mapper's, up to the serial that its door showed, if its door had shown none above that before. The end tells the last serial of either history.
+-- or, where that look was past the newest map (status 9, or one that comes before it), over a history that goes on from the mapper's, up to the serial that its door showed, if its door had shown none above that before. The end tells the last serial of either history.
 pub record IsOverPast {T : Type 0} (h over : List Version) (log : List Turn) (ended : Ended) (before after : ServerTold T) : Type 0 where
   pub begins : IsPrefix h over
   pub longer : length h < length over
@@ -88,9 +88,11 @@ pub record IsServedLog {T : Type 0} (a : Answers Version) (first : Version) (res
   pub port_faults : raised before.port_faults (failures log) ≤ after.port_faults
   pub port_stays : failures log ≡ 0 → after.port_faults ≡ before.port_faults
   pub refusal : 0 < sum_by (λ t. refused_of t.came) log → Rose before.door_faults after.door_faults
+  -- why a datagram went without a reply: it has none, or its look was refused
   pub fates : All (λ t. IsFated a t.came) log
   pub learned : length (first ∷ rest) ≤ after.greatest + 1
   pub rising : (before.greatest ≤ after.greatest) × (before.door_faults ≤ after.door_faults)
+  -- the first of these at status 0; the others say so themselves
   pub which : IsOverNewest (first ∷ rest) over log served ended before after ⊎ IsOverSeen first (first ∷ rest) over served ended before after ⊎ IsOverPast (first ∷ rest) over log ended before after
 
 -- Lane w after a drive: the turns that it made; what port, gate and notes tell of them, the notes from the first None on; and why it ended.

@@ -16,7 +16,7 @@ use Rattle.drive.specs.Feeds.{AreFed}
 use Rattle.drive.specs.Streams.{AreStreamsDone}
 
 -- what is told at one moment by all that a drive is lent: the feed, the further ones, both outputs, the pace, the lanes, and that for conversations
-pub record Lent : Type 0 where
+pub record LentTold : Type 0 where
   pub feed : DeviceState Fed
   pub more : List (DeviceState Fed)
   pub out : DeviceState Written
@@ -26,7 +26,7 @@ pub record Lent : Type 0 where
   pub stream : StreamLaneTold
 
 -- the newest version and the history, beside what both outputs and the pace tell of their pasts
-abbrev pub scene_at : Version → List Version → Lent → Scene
+abbrev pub scene_at : Version → List Version → LentTold → Scene
 scene_at newest history lent = scene newest history lent.out.past lent.maps.past lent.pace.past
 
 -- a version may follow on a history: some changes lead to it from the last one
@@ -40,7 +40,7 @@ AreDone turns first rest w (e ∷ ends) (b ∷ before) (c ∷ after) = IsDone tu
 AreDone turns first rest w (e ∷ ends) _ _ = ⊥
 
 -- A drive from a first version on: the run of its feed, or of all feeds together, whose versions go on from the first one, and the lanes over that history, the one for conversations behind the others.
-pub record IsDriven (turns : ℕ) (first : Version) (end : FeedEnd) (ends : List Ended) (stream_end : Option Ended) (before after : Lent) : Type 0 where
+pub record IsDriven (turns : ℕ) (first : Version) (end : FeedEnd) (ends : List Ended) (stream_end : Option Ended) (before after : LentTold) : Type 0 where
   pub rest : List Version
   pub newest : Version
   pub feed : AreFed first.plan turns end before.feed before.more after.feed after.more (scene_at first (first ∷ []) before) (scene_at newest (first ∷ rest) after)

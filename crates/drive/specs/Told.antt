@@ -10,8 +10,8 @@ use Rattle.lane_model.specs.Calls.{Eyes, Moment}
 use Rattle.tcp_lane.specs.Calls.{StreamMoment}
 use Rattle.tcp_lane.specs.Turns.{no_talk}
 use Rattle.drive.specs.Done.{LaneTold, ServerTold, StreamLaneTold}
-use Rattle.drive.specs.Driven.{Lent}
-use Rattle.drive.specs.declared.lent.Lent.{Lent as LentParts}
+use Rattle.drive.specs.Driven.{LentTold}
+use Rattle.drive.specs.declared.lent.Lent.{Lent}
 use Rattle.outside.specs.Faults.{DeviceState}
 
 -- a worker's viewer, with what its lane tells of its door
@@ -50,17 +50,17 @@ stream_moment_at lane viewer notes count = record {
 }
 
 -- the same things are lent, for as many turns
-abbrev pub IsSameLent : {S N K P G D M : Type 0} → LentParts S N K P G D M → LentParts S N K P G D M → Type 0
+abbrev pub IsSameLent : {S N K P G D M : Type 0} → Lent S N K P G D M → Lent S N K P G D M → Type 0
 IsSameLent a b = (b.feed.ghost_name ≡ a.feed.ghost_name) × (b.more.ghost_name ≡ a.more.ghost_name) × (b.out.ghost_name ≡ a.out.ghost_name) × (b.maps.ghost_name ≡ a.maps.ghost_name) × (b.lanes.ghost_name ≡ a.lanes.ghost_name) × (b.pace.ghost_name ≡ a.pace.ghost_name)
 
 -- nothing that is lent was touched
-abbrev pub AreUntouched : {S N K P G D M : Type 0} → LentParts S N K P G D M → LentParts S N K P G D M → Type 0
+abbrev pub AreUntouched : {S N K P G D M : Type 0} → Lent S N K P G D M → Lent S N K P G D M → Type 0
 AreUntouched a b = (b.feed.now ≡ a.feed.now) × (b.more.now ≡ a.more.now) × (b.out.now ≡ a.out.now) × (b.maps.now ≡ a.maps.now) × (b.lanes.now ≡ a.lanes.now) × (b.pace.now ≡ a.pace.now)
 
 -- all that is lent, by what a feed, a further one, an output and a pace tell
 abbrev pub lent_of : {S N K P G D M : Type 0}
     → (S → DeviceState Fed) → (N → DeviceState Fed) → (K → DeviceState Written) → (M → DeviceState (List PaceCall))
-    → LentParts S N K P G D M → StreamLaneTold → Lent
+    → Lent S N K P G D M → StreamLaneTold → LentTold
 lent_of fed named written paced l stream = record {
   feed = fed l.feed.now;
   more = map named l.more.now;

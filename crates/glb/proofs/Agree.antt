@@ -17,7 +17,7 @@ use Rattle.mapper.specs.Words.{map_text}
 use Rattle.mapper.specs.Merged.{Publishes}
 use Rattle.mapper.proofs.Agree.{all_come_one, first_one, versions_one}
 use Rattle.lane_model.specs.Machine.{GoesOn}
-use Rattle.drive.specs.Driven.{Lent, Succeeds, scene_at}
+use Rattle.drive.specs.Driven.{LentTold, Succeeds, scene_at}
 use Rattle.drive.proofs.Growing.{last_appended}
 use Rattle.drive.specs.Feeds.{AreFed}
 use Rattle.demand_feed.specs.Runs.{HasRead, IsAll, StopsLast}
@@ -68,7 +68,7 @@ came_by turns ask before after w is calls (c, all, at) = (
   record {
     all = all;
     history = at.history;
-    out = subst (λ (o : DeviceState Written). BothTell o.past after.lent.out.past (IsPrinted c.out)) (ap (λ (l : Lent). l.out) w.start.rest ∙ ap (λ (l : Lent). l.out) w.place.rest) at.out;
+    out = subst (λ (o : DeviceState Written). BothTell o.past after.lent.out.past (IsPrinted c.out)) (ap (λ (l : LentTold). l.out) w.start.rest ∙ ap (λ (l : LentTold). l.out) w.place.rest) at.out;
     maps = subst (λ (h : List Version). BothTell before.lent.maps.past after.lent.maps.past (IsPrinted (map map_text h))) at.history w.texts;
   },
 )
@@ -82,7 +82,7 @@ one_feed turns ask before after w none =
 
 -- what the feed tells is as it was before the cell was opened
 feed_same : (turns : ℕ) (ask : Service) (before after : Surroundings) (w : IsWellServed turns ask before after) → w.started.feed.past ≡ before.lent.feed.past
-feed_same turns ask before after w = ap (λ (l : Lent). l.feed.past) w.start.rest ∙ ap (λ (l : Lent). l.feed.past) w.place.rest
+feed_same turns ask before after w = ap (λ (l : LentTold). l.feed.past) w.start.rest ∙ ap (λ (l : LentTold). l.feed.past) w.place.rest
 
 -- what is said of the tasks of all pieces that were read, to a `stop` or to the end, is said of those of their octets
 ended_of_pieces : (t : Plan) (turns : ℕ) (pieces : List (List ℕ)) (before after : Option Fed) (P : List Task → Type 0)

@@ -17,7 +17,7 @@ use Rattle.published_map.specs.Version.{Version}
 use Rattle.mapper.specs.Words.{map_text}
 use Rattle.mapper.specs.Mappers.{IsFirst, IsFromScratch}
 use Rattle.drive.specs.Done.{LaneTold, StreamLaneTold}
-use Rattle.drive.specs.Driven.{AreEnds, IsDriven, Lent}
+use Rattle.drive.specs.Driven.{AreEnds, IsDriven, LentTold}
 use Rattle.drive.specs.Feeds.{AllStand, AnyRose, NoneFell}
 use Rattle.glb.specs.Causes.{AnyFeed, HasFeedFault}
 use Rattle.glb.specs.Feeds.{with_feeds}
@@ -32,21 +32,21 @@ use Rattle.glb.proofs.Named.{all_stand_more, any_rose, fell_more}
 use Rattle.glb.proofs.Served.{is_served}
 
 -- what a start touches, of all that is lent
-abbrev pub begun_of : Lent → Begun
+abbrev pub begun_of : LentTold → Begun
 begun_of s = record { more = s.more; maps = s.maps; lanes = s.lanes; stream = s.stream }
 
 -- the same behind it
-abbrev pub with_begun : Lent → Begun → Lent
+abbrev pub with_begun : LentTold → Begun → LentTold
 with_begun s b = record s { more = b.more; maps = b.maps; lanes = b.lanes; stream = b.stream }
 
 -- the session was started
-pub starts : (ask : Service) (first : Version) (text : List ℕ) (before : Lent) (b : Begun) → text ≡ map_text first → IsStart ask text start.Ready (begun_of before) b → IsStarted ask first before (with_begun before b)
+pub starts : (ask : Service) (first : Version) (text : List ℕ) (before : LentTold) (b : Begun) → text ≡ map_text first → IsStart ask text start.Ready (begun_of before) b → IsStarted ask first before (with_begun before b)
 starts ask first text before b is h =
     let k = subst (λ t. IsStart ask t start.Ready (begun_of before) b) is h in
     record { opened = k.0; stream = k.1; named = k.2; put = k.3; stays = k.4; rest = refl }
 
 -- all that is lent, by its parts
-abbrev lent_with : DeviceState Fed → List (DeviceState Fed) → DeviceState Written → DeviceState Written → DeviceState (List PaceCall) → List LaneTold → StreamLaneTold → Lent
+abbrev lent_with : DeviceState Fed → List (DeviceState Fed) → DeviceState Written → DeviceState Written → DeviceState (List PaceCall) → List LaneTold → StreamLaneTold → LentTold
 lent_with feed more out maps pace lanes stream = record { feed = feed; more = more; out = out; maps = maps; pace = pace; lanes = lanes; stream = stream }
 
 -- what is lent, of the same parts
@@ -56,7 +56,7 @@ pub same_lent : (feed feed' : DeviceState Fed) (more more' : List (DeviceState F
 same_lent feed feed' more more' out out' maps maps' pace pace' lanes lanes' stream stream' a b c d e f g = rw (a, b, c, d, e, f, g) refl
 
 -- it was started, and then memory was wanting
-pub unfed_session : (turns : ℕ) (ask : Service) (first : Version) (before started after : Lent) → IsStarted ask first before started → after ≡ started → IsFirstSession turns ask first before after status.NoMemory
+pub unfed_session : (turns : ℕ) (ask : Service) (first : Version) (before started after : LentTold) → IsStarted ask first before started → after ≡ started → IsFirstSession turns ask first before after status.NoMemory
 unfed_session turns ask first before started after start same = inr (inr (inr (inl (refl, subst (IsStarted ask first before) (sym same) start))))
 
 -- the first of two lists one behind the other, and what is behind them
@@ -71,7 +71,7 @@ pub behind_same : {A : Type 0} (n : ℕ) (before after front then behind : List 
 behind_same n before after front then behind was is count same = ap (drop n) is ∙ behind_is then behind n (same ∙ count) ∙ sym (ap (drop n) was ∙ behind_is front behind n count)
 
 -- it was started and served, with these further feeds ahead of those that were not opened
-pub served_session : (turns : ℕ) (ask : Service) (first : Version) (before started after : Lent) (front then behind : List (DeviceState Fed)) (end : FeedEnd) (places : List (Option Ended)) (stream_end : Option Ended) (result : Status) → IsStarted ask first before started
+pub served_session : (turns : ℕ) (ask : Service) (first : Version) (before started after : LentTold) (front then behind : List (DeviceState Fed)) (end : FeedEnd) (places : List (Option Ended)) (stream_end : Option Ended) (result : Status) → IsStarted ask first before started
     → started.more ≡ front ++ behind → after.more ≡ then ++ behind → length front ≡ length ask.more → length then ≡ length front
     → (ends : List Ended) × (length ends ≡ ask.workers) × AreEnds ends places × IsDriven turns first end ends stream_end (record started { more = front }) (record after { more = then }) → length (option_to_list stream_end) ≡ streams_of ask.tcp
     → result ≡ status_at end places stream_end → (end ≡ feed.SourceFault → Rose started.feed.faults after.feed.faults ⊎ AnyRose front then) → (end ≢ feed.SourceFault → (end ≡ feed.SinkFault → ask.more ≡ []) → (after.feed.faults ≡ started.feed.faults) × AllStand front then)
@@ -105,7 +105,7 @@ served_session turns ask first before started after front then behind end places
     some rose = subst (λ (xs : List (DeviceState Fed)). AnyFeed n HasFeedFault xs after.more) (sym more) (subst (λ (xs : List (DeviceState Fed)). AnyFeed n HasFeedFault (front ++ behind) xs) (sym past) (any_rose n front then behind behind count rose))
 
 -- a session that begins with the first map of a topology
-pub begun : (turns : ℕ) (ask : Service) (t : Plan) (m : PublisherState) (before : Lent) (lanes : List LaneTold) (after : Lent) (result : Status)
+pub begun : (turns : ℕ) (ask : Service) (t : Plan) (m : PublisherState) (before : LentTold) (lanes : List LaneTold) (after : LentTold) (result : Status)
     → PlacedFirst (lanes_of ask) before.lanes lanes → IsFirst t m → IsFromScratch t.market m.newest.lines → IsFirstSession turns ask m.newest (record before { lanes = lanes }) after result
     → IsSession turns ask t before after result
 begun turns ask t m before lanes after result placed first scratch session = inr (
@@ -117,7 +117,7 @@ begun turns ask t m before lanes after result placed first scratch session = inr
 )
 
 -- a session whose map cell was not opened
-pub unopened : (turns : ℕ) (ask : Service) (t : Plan) (fault : OpenFault) (before : Lent) (lanes : List LaneTold) (result : Status)
+pub unopened : (turns : ℕ) (ask : Service) (t : Plan) (fault : OpenFault) (before : LentTold) (lanes : List LaneTold) (result : Status)
     → IsAskedSome (lanes_of ask) fault before.lanes lanes → (fault ≡ open_fault.NoMemory → result ≡ status.NoMemory) → (fault ≡ open_fault.CellFault → result ≡ status.CellFault)
     → IsSession turns ask t before (record before { lanes = lanes }) result
 unopened turns ask t open_fault.NoMemory before lanes result asked memory refused = inl (record {

@@ -21,7 +21,7 @@ use Rattle.mapper.specs.Words.{map_text}
 use Rattle.drive.specs.Done.{LaneTold, StreamLaneTold}
 use Rattle.outside.specs.Streams.{StreamsTold, IsOpening as AreStreamsOpened}
 use Rattle.glb.specs.Words.{Service, lanes_of}
-use Rattle.drive.specs.Driven.{Lent, scene_at}
+use Rattle.drive.specs.Driven.{LentTold, scene_at}
 use Rattle.drive.specs.Feeds.{AreFed}
 use Rattle.glb.specs.declared.status.Status.{Status}
 use Rattle.glb.specs.declared.status.Status.TheVariants as status
@@ -100,7 +100,7 @@ stream_begun (Some at) x y h = record {
 }
 
 -- all lanes
-pub record AreAllBegun (before mid : Lent) : Type 0 where
+pub record AreAllBegun (before mid : LentTold) : Type 0 where
   pub lanes : AreBegun before.lanes mid.lanes
   pub stream : IsStreamBegun before.stream mid.stream
 
@@ -117,21 +117,21 @@ of_stream_from : (P Q : StreamLaneTold → StreamLaneTold → Type 0) (tcp : Opt
 of_stream_from P Q None x y z f h = h
 of_stream_from P Q (Some at) x y z f h = f h
 
-server_from : (P P' : LaneTold → LaneTold → Type 0) (Q Q' : StreamLaneTold → StreamLaneTold → Type 0) (ask : Service) (before mid after : Lent) → ((x y z : LaneTold) → IsBegun x y → P y z → P' x z) → ((x y z : StreamLaneTold) → IsStreamBegun x y → Q y z → Q' x z)
+server_from : (P P' : LaneTold → LaneTold → Type 0) (Q Q' : StreamLaneTold → StreamLaneTold → Type 0) (ask : Service) (before mid after : LentTold) → ((x y z : LaneTold) → IsBegun x y → P y z → P' x z) → ((x y z : StreamLaneTold) → IsStreamBegun x y → Q y z → Q' x z)
     → AreAllBegun before mid → AnyServer ask P Q mid after → AnyServer ask P' Q' before after
 server_from P P' Q Q' ask before mid after f g b (inl h) = inl (any_from P P' ask.workers before.lanes mid.lanes after.lanes f b.lanes h)
 server_from P P' Q Q' ask before mid after f g b (inr h) = inr (of_stream_from Q Q' ask.tcp before.stream mid.stream after.stream (λ q. g before.stream mid.stream after.stream b.stream q) h)
 
-pub port_from : (ask : Service) (before mid after : Lent) → AreAllBegun before mid → AnyServer ask HasPortFault HasPortFault mid after → AnyServer ask HasPortFault HasPortFault before after
+pub port_from : (ask : Service) (before mid after : LentTold) → AreAllBegun before mid → AnyServer ask HasPortFault HasPortFault mid after → AnyServer ask HasPortFault HasPortFault before after
 port_from ask before mid after b h = server_from HasPortFault HasPortFault HasPortFault HasPortFault ask before mid after (λ x y z o r. omega (arith, o.port_faults, r)) (λ x y z o r. omega (arith, o.port_faults, r)) b h
 
-eight_from : (ask : Service) (before mid after : Lent) → AreAllBegun before mid → AnyServer ask HasEightPortFaults HasEightPortFaults mid after → AnyServer ask HasPortFault HasPortFault before after
+eight_from : (ask : Service) (before mid after : LentTold) → AreAllBegun before mid → AnyServer ask HasEightPortFaults HasEightPortFaults mid after → AnyServer ask HasPortFault HasPortFault before after
 eight_from ask before mid after b h = server_from HasEightPortFaults HasPortFault HasEightPortFaults HasPortFault ask before mid after (λ x y z o r. omega (arith, o.port_faults, r)) (λ x y z o r. omega (arith, o.port_faults, r)) b h
 
-pub door_from : (ask : Service) (before mid after : Lent) → AreAllBegun before mid → AnyServer ask HasDoorFault HasDoorFault mid after → AnyServer ask HasDoorFault HasDoorFault before after
+pub door_from : (ask : Service) (before mid after : LentTold) → AreAllBegun before mid → AnyServer ask HasDoorFault HasDoorFault mid after → AnyServer ask HasDoorFault HasDoorFault before after
 door_from ask before mid after b h = server_from HasDoorFault HasDoorFault HasDoorFault HasDoorFault ask before mid after (λ x y z o r. omega (arith, o.door_faults, r)) (λ x y z o r. omega (arith, o.door_faults, r)) b h
 
-pub shown_from : (k : ℕ) (ask : Service) (before mid after : Lent) → AreAllBegun before mid → AnyServer ask (HasShown k) (HasShown k) mid after → AnyServer ask (HasShown k) (HasShown k) before after
+pub shown_from : (k : ℕ) (ask : Service) (before mid after : LentTold) → AreAllBegun before mid → AnyServer ask (HasShown k) (HasShown k) mid after → AnyServer ask (HasShown k) (HasShown k) before after
 shown_from k ask before mid after b h = server_from (HasShown k) (HasShown k) (HasShown k) (HasShown k) ask before mid after (λ x y z o r. r) (λ x y z o r. r) b h
 
 taken_on : (turns : ℕ) (x y z : LaneTold) → IsBegun x y → HasTaken turns y z → HasTaken turns x z
@@ -142,7 +142,7 @@ heard_on : (turns : ℕ) (x y z : StreamLaneTold) → IsStreamBegun x y → HasH
 heard_on turns x y z o r =
     tells_on x.port y.port z.port (λ (b c : StreamsTold). c.answers ≡ b.answers) (λ (b c : StreamsTold). c.answers ≡ raised b.answers turns) (λ (b c : StreamsTold). c.answers ≡ raised b.answers turns) (λ b c d u v. v ∙ ap (λ (k : ℕ). raised k turns) u) o.port r
 
-pub taken_from : (turns : ℕ) (ask : Service) (before mid after : Lent) → AreAllBegun before mid → AnyServer ask (HasTaken turns) (HasHeard turns) mid after → AnyServer ask (HasTaken turns) (HasHeard turns) before after
+pub taken_from : (turns : ℕ) (ask : Service) (before mid after : LentTold) → AreAllBegun before mid → AnyServer ask (HasTaken turns) (HasHeard turns) mid after → AnyServer ask (HasTaken turns) (HasHeard turns) before after
 taken_from turns ask before mid after b h = server_from (HasTaken turns) (HasTaken turns) (HasHeard turns) (HasHeard turns) ask before mid after (λ x y z o r. taken_on turns x y z o r) (λ x y z o r. heard_on turns x y z o r) b h
 
 -- a fault of the cell is a fault of a door or a serial past the versions
@@ -158,7 +158,7 @@ stream_parts : (k : ℕ) (tcp : Option Listen) (x y : StreamLaneTold) → OfStre
 stream_parts k None x y h = absurd h
 stream_parts k (Some at) x y h = h
 
-server_parts : (k : ℕ) (ask : Service) (before after : Lent) → AnyServer ask (HasCellFault k) (HasCellFault k) before after → AnyServer ask HasDoorFault HasDoorFault before after ⊎ AnyServer ask (HasShown k) (HasShown k) before after
+server_parts : (k : ℕ) (ask : Service) (before after : LentTold) → AnyServer ask (HasCellFault k) (HasCellFault k) before after → AnyServer ask HasDoorFault HasDoorFault before after ⊎ AnyServer ask (HasShown k) (HasShown k) before after
 server_parts k ask before after (inl h) = elim (any_parts k ask.workers before.lanes after.lanes h) [ inl r ↦ inl (inl r) | inr r ↦ inr (inl r) ]
 server_parts k ask before after (inr h) = elim (stream_parts k ask.tcp before.stream after.stream h) [ inl r ↦ inl (inr r) | inr r ↦ inr (inr r) ]
 
@@ -188,10 +188,10 @@ first_door (suc n) [] ys some h = absurd h
 first_door (suc n) (x ∷ xs) [] some h = absurd h
 
 -- an answer that is none of these has no cause to tell
-other : (turns : ℕ) (ask : Service) (before after : Lent) (result : Status) → (result ≡ status.PortFault → ⊥) → (result ≡ status.Spent → ⊥) → (result ≡ status.CellFault → ⊥) → HasLaneCauses turns ask before after result
+other : (turns : ℕ) (ask : Service) (before after : LentTold) (result : Status) → (result ≡ status.PortFault → ⊥) → (result ≡ status.Spent → ⊥) → (result ≡ status.CellFault → ⊥) → HasLaneCauses turns ask before after result
 other turns ask before after result port spent cell = record { port = λ h. absurd (port h); spent = λ h. absurd (spent h); cell = λ h. absurd (cell h) }
 
-pub unread_causes : {T : Type 0} (kind : Kind T) (turns : ℕ) (ask : Service) (before after : Lent) (name : List ℕ) (files : Option Files) (out out' : Option Written) (result : Status) → RunsBy (IsRefused kind files name) out out' result → HasLaneCauses turns ask before after result
+pub unread_causes : {T : Type 0} (kind : Kind T) (turns : ℕ) (ask : Service) (before after : LentTold) (name : List ℕ) (files : Option Files) (out out' : Option Written) (result : Status) → RunsBy (IsRefused kind files name) out out' result → HasLaneCauses turns ask before after result
 unread_causes kind turns ask before after name files out out' result (inl whole) =
     let is : whole.due.status ≡ status.Refused = ap (λ (o : Outcome). o.status) whole.is_due.4 in
     let same : result ≡ status.Refused = whole.status ∙ is in other turns ask before after result (λ h. cc) (λ h. cc) (λ h. cc)
@@ -217,7 +217,7 @@ cell_ends feed.SinkFault p s c h = absurd (cc)
 cell_ends feed.NoMemory p s c h = absurd (by_memory p s c h)
 
 -- a session that was started and served
-served_causes : (turns : ℕ) (ask : Service) (first : Version) (before started after : Lent) (result : Status) → IsStarted ask first before started → IsServed turns ask first started after result → HasLaneCauses turns ask before after result
+served_causes : (turns : ℕ) (ask : Service) (first : Version) (before started after : LentTold) (result : Status) → IsStarted ask first before started → IsServed turns ask first started after result → HasLaneCauses turns ask before after result
 served_causes turns ask first before started after result start served = record {
   port = λ h. eight_from ask before started after begun (served.port h);
   spent = λ h. spent_of (served.spent h);
@@ -231,7 +231,7 @@ served_causes turns ask first before started after result start served = record 
     count = length ask.more
 
     same_feed : started.feed ≡ before.feed
-    same_feed = ap (λ (l : Lent). l.feed) start.rest
+    same_feed = ap (λ (l : LentTold). l.feed) start.rest
 
     spent_of : (served.end ≡ feed.Spent) ⊎ AnyServer ask (HasTaken turns) (HasHeard turns) started after → AreSpent turns ask before after
     spent_of (inl is) = elim (fed_given first.plan turns served.end started.feed after.feed (take count started.more) (take count after.more) _ _ is served.driven.feed) [
@@ -256,7 +256,7 @@ served_causes turns ask first before started after result start served = record 
       subst (λ (k : ℕ). AnyServer ask (HasShown k) (HasShown k) before after) (sym (length-map (first ∷ served.driven.rest) map_text)) (shown_from (length (first ∷ served.driven.rest)) ask before started after begun h),
     )
 
-first_causes : (turns : ℕ) (ask : Service) (first : Version) (before after : Lent) (result : Status) → IsFirstSession turns ask first before after result → HasLaneCauses turns ask before after result
+first_causes : (turns : ℕ) (ask : Service) (first : Version) (before after : LentTold) (result : Status) → IsFirstSession turns ask first before after result → HasLaneCauses turns ask before after result
 first_causes turns ask first before after result (inl shut) = record {
   port = λ h. elim shut.opened [ inl some ↦ inl (failed_port ask.listen some.0 ask.workers before.lanes after.lanes some.1 some.2) | inr all ↦ inr (failed_stream ask.tcp before.stream after.stream all.1) ];
   spent = λ h. let is = shut.why in absurd (cc);
@@ -268,12 +268,12 @@ first_causes turns ask first before after result (inr (inr (inr (inl k)))) = let
 first_causes turns ask first before after result (inr (inr (inr (inr (started, start, served))))) = served_causes turns ask first before started after result start served
 
 -- what is so from the opened cell on is so from before it
-placed_causes : (turns : ℕ) (ask : Service) (before placed after : Lent) (result : Status) → IsPlaced ask before placed → HasLaneCauses turns ask placed after result → HasLaneCauses turns ask before after result
+placed_causes : (turns : ℕ) (ask : Service) (before placed after : LentTold) (result : Status) → IsPlaced ask before placed → HasLaneCauses turns ask placed after result → HasLaneCauses turns ask before after result
 placed_causes turns ask before placed after result place causes = record {
   port = λ h. port_from ask before placed after begun (causes.port h);
   spent = λ h. elim (causes.spent h) [
     | inl given ↦ inl (subst (λ (f : DeviceState Fed). HasFeedGiven turns f after.feed) same_feed given)
-    | inr (inl given) ↦ inr (inl (subst (λ (fs : List (DeviceState Fed)). AnyFeed (length ask.more) (HasFeedGiven turns) fs after.more) (ap (λ (l : Lent). l.more) place.rest) given))
+    | inr (inl given) ↦ inr (inl (subst (λ (fs : List (DeviceState Fed)). AnyFeed (length ask.more) (HasFeedGiven turns) fs after.more) (ap (λ (l : LentTold). l.more) place.rest) given))
     | inr (inr some) ↦ inr (inr (taken_from turns ask before placed after begun some))
   ];
   cell = λ h. elim (causes.cell h) [
@@ -283,15 +283,15 @@ placed_causes turns ask before placed after result place causes = record {
 }
   where
     begun : AreAllBegun before placed
-    begun = record { lanes = door_begun (lanes_of ask) before.lanes placed.lanes place.asked; stream = stream_same before.stream placed.stream (ap (λ (l : Lent). l.stream) place.rest) }
+    begun = record { lanes = door_begun (lanes_of ask) before.lanes placed.lanes place.asked; stream = stream_same before.stream placed.stream (ap (λ (l : LentTold). l.stream) place.rest) }
 
     same_feed : placed.feed ≡ before.feed
-    same_feed = ap (λ (l : Lent). l.feed) place.rest
+    same_feed = ap (λ (l : LentTold). l.feed) place.rest
 
     same_maps : placed.maps ≡ before.maps
-    same_maps = ap (λ (l : Lent). l.maps) place.rest
+    same_maps = ap (λ (l : LentTold). l.maps) place.rest
 
-pub session_causes : (turns : ℕ) (ask : Service) (t : Plan) (before after : Lent) (result : Status) → 1 ≤ ask.workers → IsSession turns ask t before after result → HasLaneCauses turns ask before after result
+pub session_causes : (turns : ℕ) (ask : Service) (t : Plan) (before after : LentTold) (result : Status) → 1 ≤ ask.workers → IsSession turns ask t before after result → HasLaneCauses turns ask before after result
 session_causes turns ask t before after result some (inl unopened) = elim unopened.why [
   | inl is ↦ other turns ask before after result (λ h. cc) (λ h. cc) (λ h. cc)
   | inr is ↦ record {

@@ -11,7 +11,7 @@ use Rattle.demand_feed.specs.declared.run.FeedEnd.{FeedEnd}
 use Rattle.demand_feed.specs.declared.run.FeedEnd.TheVariants as feed
 use Rattle.drive.specs.Done.{LaneTold, StreamLaneTold}
 use Rattle.drive.specs.Streams.{AreStreamsDone, IsStreamDone}
-use Rattle.drive.specs.Driven.{AreEnds, IsDriven, Lent}
+use Rattle.drive.specs.Driven.{AreEnds, IsDriven, LentTold}
 use Rattle.drive.specs.Feeds.{AllStand, NoneFell}
 use Rattle.glb.specs.Feeds.{with_feeds}
 use Rattle.glb.specs.Words.{Service, streams_of}
@@ -40,7 +40,7 @@ by_ends : (end : FeedEnd) (ends : List Ended) (places : List (Option Ended)) (st
 by_ends end ends places stream_end are = rw (by_test is_port_fault ends places stream_end are, by_test is_spent ends places stream_end are, by_test is_cell_fault ends places stream_end are) refl
 
 -- where some lane ended so, a lane for datagrams or that for conversations has that
-any_server : (test : Ended → Bool) (P : LaneTold → LaneTold → Type 0) (Q : StreamLaneTold → StreamLaneTold → Type 0) (ask : Service) (ends : List Ended) (stream_end : Option Ended) (before after : Lent) → length ends ≡ ask.workers → length (option_to_list stream_end) ≡ streams_of ask.tcp
+any_server : (test : Ended → Bool) (P : LaneTold → LaneTold → Type 0) (Q : StreamLaneTold → StreamLaneTold → Type 0) (ask : Service) (ends : List Ended) (stream_end : Option Ended) (before after : LentTold) → length ends ≡ ask.workers → length (option_to_list stream_end) ≡ streams_of ask.tcp
     → (list_any test ends ≡ true → AnyLane (length ends) P before.lanes after.lanes) → ((e : Ended) → stream_end ≡ Some e → test e ≡ true → Q before.stream after.stream) → list_any test (all_ends ends stream_end) ≡ true → AnyServer ask P Q before after
 any_server test P Q ask ends stream_end before after as_many as_asked lanes stream some =
     elim (or_parts (list_any test ends) (list_any test (option_to_list stream_end)) (sym (list_any-append test ends (option_to_list stream_end)) ∙ some)) [
@@ -62,7 +62,7 @@ any_server test P Q ask ends stream_end before after as_many as_asked lanes stre
     of_stream (Some at) None same f h = absurd (cc)
     of_stream (Some at) (Some x) same f h = f x refl (is_true (test x) h)
 
-pub is_served : (turns : ℕ) (ask : Service) (first : Version) (before after : Lent) (end : FeedEnd) (places : List (Option Ended)) (stream_end : Option Ended) (result : Status)
+pub is_served : (turns : ℕ) (ask : Service) (first : Version) (before after : LentTold) (end : FeedEnd) (places : List (Option Ended)) (stream_end : Option Ended) (result : Status)
     → (ends : List Ended) × (length ends ≡ ask.workers) × AreEnds ends places × IsDriven turns first end ends stream_end (with_feeds (length ask.more) before) (with_feeds (length ask.more) after) → drop (length ask.more) after.more ≡ drop (length ask.more) before.more → length (option_to_list stream_end) ≡ streams_of ask.tcp
     → result ≡ status_at end places stream_end → (end ≡ feed.SourceFault → Rose before.feed.faults after.feed.faults ⊎ AnyFeed (length ask.more) HasFeedFault before.more after.more)
     → (end ≢ feed.SourceFault → (end ≡ feed.SinkFault → ask.more ≡ []) → (after.feed.faults ≡ before.feed.faults) × AllStand before.more after.more) → (end ≡ feed.SinkFault → Rose before.out.faults after.out.faults ⊎ Rose before.maps.faults after.maps.faults)

@@ -5,7 +5,7 @@ use Rattle.std.specs.Prelude.{Option, None, Some, ◌≢◌}
 use Rattle.outside.specs.Faults.{BothTell, DeviceState}
 use Rattle.outside.specs.Shelf.{Load, Shelved}
 use Rattle.outside.specs.Sink.{Written}
-use Rattle.drive.specs.Driven.{Lent}
+use Rattle.drive.specs.Driven.{LentTold}
 use Rattle.glb.proofs.Named.{fell_same}
 use Rattle.glb.specs.declared.status.Status.{Status}
 use Rattle.glb.specs.declared.status.Status.TheVariants as status
@@ -102,7 +102,7 @@ unread turns (Some (large groups)) s = record {
 }
 
 -- these files, beside what is lent
-abbrev over : DeviceState Shelved → Lent → Surroundings
+abbrev over : DeviceState Shelved → LentTold → Surroundings
 over files lent = record { files = files; lent = lent }
 
 -- what is promised of a run is promised of the same turns, task and surroundings
@@ -120,5 +120,5 @@ none_behind all front [] is same = refl
 none_behind all front (x ∷ xs) is same = absurd (omega (arith, ap length is, length-append front (x ∷ xs), same))
 
 -- the same files, beside the same that is lent
-pub same_surroundings : (files : DeviceState Shelved) (a b : Lent) → a ≡ b → over files a ≡ over files b
+pub same_surroundings : (files : DeviceState Shelved) (a b : LentTold) → a ≡ b → over files a ≡ over files b
 same_surroundings files a b h = ap (over files) h

@@ -30,7 +30,7 @@ use Rattle.glb.specs.Words.{Service, streams_of}
 use Rattle.glb.specs.Outcome.{Outcome, RunsBy}
 use Rattle.glb.specs.Files.{IsRefused, Says, topology_file}
 use Rattle.glb.specs.Loads.{files_between}
-use Rattle.drive.specs.Driven.{Lent, scene_at}
+use Rattle.drive.specs.Driven.{LentTold, scene_at}
 use Rattle.outside.specs.Faults.{BothTell, DeviceState}
 use Rattle.outside.specs.Sink.{Written}
 use Rattle.mapper.specs.Words.{map_text}
@@ -184,7 +184,7 @@ ok_parts feed.NoMemory p s c h = let parts = by_parts p s true c h in absurd (cc
 
 -- a session over a topology
 session_well : (turns : ℕ) (ask : Service) (topology : Plan) (before after : Surroundings) → IsPlan topology → Says topology_file (files_between before.files.past after.files.past) ask.topology topology
-    → (placed started : Lent) (first : Version) → IsPlaced ask before.lent placed → IsFirstOf topology first → IsStarted ask first placed started
+    → (placed started : LentTold) (first : Version) → IsPlaced ask before.lent placed → IsFirstOf topology first → IsStarted ask first placed started
     → IsServed turns ask first started after.lent status.Ok → IsWellServed turns ask before after
 session_well turns ask topology before after plan says placed started first place is_first start served =
     let parts = ok_parts served.end (list_any is_port_fault (all_ends served.ends served.stream_end)) (list_any is_spent (all_ends served.ends served.stream_end)) (list_any is_cell_fault (all_ends served.ends served.stream_end)) served.result_is in
@@ -196,7 +196,7 @@ session_well turns ask topology before after plan says placed started first plac
     let fed : AreFed topology turns feed.Ended started.feed (take count started.more) after.lent.feed (take count after.lent.more) (scene_at first (first ∷ []) started) (scene_at d.newest (first ∷ d.rest) after.lent) =
     subst (λ (t : Plan). AreFed t turns feed.Ended started.feed (take count started.more) after.lent.feed (take count after.lent.more) (scene_at first (first ∷ []) started) (scene_at d.newest (first ∷ d.rest) after.lent)) is_first.0.plan
     (subst (λ (e : FeedEnd). AreFed first.plan turns e started.feed (take count started.more) after.lent.feed (take count after.lent.more) (scene_at first (first ∷ []) started) (scene_at d.newest (first ∷ d.rest) after.lent)) parts.0 d.feed) in
-    let placed_maps : placed.maps ≡ before.lent.maps = ap (λ (l : Lent). l.maps) place.rest in
+    let placed_maps : placed.maps ≡ before.lent.maps = ap (λ (l : LentTold). l.maps) place.rest in
     record {
       topology = topology;
       is_plan = plan;

@@ -7,7 +7,7 @@ use Rattle.demand_feed.specs.Runs.{HasRead, NoStop}
 use Rattle.mapper.specs.Scenes.{IsPrinted}
 use Rattle.addr_text.specs.declared.address.Listen.{Listen}
 use Rattle.drive.specs.Done.{LaneTold, ServerTold, StreamLaneTold}
-use Rattle.drive.specs.Driven.{Lent}
+use Rattle.drive.specs.Driven.{LentTold}
 use Rattle.glb.specs.Words.{Service}
 use Rattle.glb.specs.declared.status.Status.{Status}
 use Rattle.glb.specs.declared.status.Status.TheVariants.{PortFault, Spent, CellFault}
@@ -24,7 +24,7 @@ OfStream None P before after = ⊥
 OfStream (Some at) P before after = P before after
 
 -- one of the lanes that are asked for is so, before and after: one of the first lanes for datagrams, or that for conversations
-abbrev pub AnyServer : Service → (LaneTold → LaneTold → Type 0) → (StreamLaneTold → StreamLaneTold → Type 0) → Lent → Lent → Type 0
+abbrev pub AnyServer : Service → (LaneTold → LaneTold → Type 0) → (StreamLaneTold → StreamLaneTold → Type 0) → LentTold → LentTold → Type 0
 AnyServer ask P Q before after = AnyLane ask.workers P before.lanes after.lanes ⊎ OfStream ask.tcp Q before.stream after.stream
 
 -- the count of its port, or of its streams, rose
@@ -74,15 +74,15 @@ abbrev pub HasFeedGiven : ℕ → DeviceState Fed → DeviceState Fed → Type 0
 HasFeedGiven turns before after = HasGiven turns before.past after.past
 
 -- a feed gave as many pieces as there are turns, or one of the lanes took as many answers
-abbrev pub AreSpent : ℕ → Service → Lent → Lent → Type 0
+abbrev pub AreSpent : ℕ → Service → LentTold → LentTold → Type 0
 AreSpent turns ask before after = HasFeedGiven turns before.feed after.feed ⊎ AnyFeed (length ask.more) (HasFeedGiven turns) before.more after.more ⊎ AnyServer ask (HasTaken turns) (HasHeard turns) before after
 
 -- the maps got some texts, and the door of one of the lanes showed a serial beyond as many versions
-abbrev pub IsPastMaps : Service → Lent → Lent → Type 0
+abbrev pub IsPastMaps : Service → LentTold → LentTold → Type 0
 IsPastMaps ask before after = (texts : List (List ℕ)) × BothTell before.maps.past after.maps.past (IsPrinted texts) × AnyServer ask (HasShown (length texts)) (HasShown (length texts)) before after
 
 -- why a fault of the lanes was answered, or that turns were spent
-pub record HasLaneCauses (turns : ℕ) (ask : Service) (before after : Lent) (result : Status) : Type 0 where
+pub record HasLaneCauses (turns : ℕ) (ask : Service) (before after : LentTold) (result : Status) : Type 0 where
   pub port : result ≡ PortFault → AnyServer ask HasPortFault HasPortFault before after
   pub spent : result ≡ Spent → AreSpent turns ask before after
   pub cell : result ≡ CellFault → AnyServer ask HasDoorFault HasDoorFault before after ⊎ IsPastMaps ask before after

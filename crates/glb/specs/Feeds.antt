@@ -5,7 +5,7 @@ use Rattle.outside.specs.NamedSource.{IsNamed}
 use Rattle.outside.specs.Source.{Fed}
 use Rattle.outside.specs.declared.port.Opening.{Opening}
 use Rattle.outside.specs.declared.port.Opening.TheVariants as opening
-use Rattle.drive.specs.Driven.{Lent}
+use Rattle.drive.specs.Driven.{LentTold}
 
 -- An opening of a further feed under a name: the name is noted, and what else it tells as a feed stays; and its count of faults rose where that failed, and else stands.
 pub record IsFeedOpening (name : List ℕ) (result : Opening) (before after : DeviceState Fed) : Type 0 where
@@ -21,5 +21,5 @@ AreNamed (name ∷ names) (r ∷ results) (b ∷ before) (c ∷ after) = IsFeedO
 AreNamed names (r ∷ results) _ _ = ⊥
 
 -- what a drive is lent of all of this: so many further feeds
-abbrev pub with_feeds : ℕ → Lent → Lent
+abbrev pub with_feeds : ℕ → LentTold → LentTold
 with_feeds count lent = record lent { more = take count lent.more }

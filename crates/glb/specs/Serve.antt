@@ -19,7 +19,7 @@ use Rattle.mapper.specs.Scenes.{IsCutBehind, IsPrinted}
 use Rattle.mapper.specs.Words.{map_text}
 use Rattle.mapper.specs.Mappers.{IsFirst, IsFromScratch}
 use Rattle.drive.specs.Done.{LaneTold, StreamLaneTold}
-use Rattle.drive.specs.Driven.{IsDriven, Lent}
+use Rattle.drive.specs.Driven.{IsDriven, LentTold}
 use Rattle.drive.specs.Feeds.{AllStand, NoneFell}
 use Rattle.glb.specs.Feeds.{AreNamed, with_feeds}
 use Rattle.glb.specs.declared.status.Status.{Status}
@@ -131,26 +131,26 @@ abbrev pub then_failed : ℕ → List Opening
 then_failed n = all_ready n ++ opening.Failed ∷ []
 
 -- The map cell was not opened: a place in it was refused, which the door counted once, or memory was wanting, and it counted nothing.
-pub record IsUnopened (ask : Service) (before after : Lent) (result : Status) : Type 0 where
+pub record IsUnopened (ask : Service) (before after : LentTold) (result : Status) : Type 0 where
   pub why : (result ≡ status.NoMemory) ⊎ ((result ≡ status.CellFault) × FirstDoorRose before.lanes after.lanes)
   pub stays : result ≢ status.CellFault → FirstDoorStands before.lanes after.lanes
   pub asked : (k : ℕ) × (k ≤ lanes_of ask) × AskedFirst k before.lanes after.lanes
   pub rest : after ≡ record before { lanes = after.lanes }
 
 -- The map cell was opened, with a place for each lane, and none was refused.
-pub record IsPlaced (ask : Service) (before after : Lent) : Type 0 where
+pub record IsPlaced (ask : Service) (before after : LentTold) : Type 0 where
   pub asked : PlacedFirst (lanes_of ask) before.lanes after.lanes
   pub rest : after ≡ record before { lanes = after.lanes }
 
 -- A port did not open, and none behind it was opened, nor the streams; or all ports were opened, and the streams did not open.
-pub record IsPortUnopened (ask : Service) (before after : Lent) (result : Status) : Type 0 where
+pub record IsPortUnopened (ask : Service) (before after : LentTold) (result : Status) : Type 0 where
   pub why : result ≡ status.PortFault
   pub opened : ((k : ℕ) × (k < ask.workers) × AreOpened ask.listen (then_failed k) before.lanes after.lanes × (after.stream ≡ before.stream))
       ⊎ (AreOpened ask.listen (all_ready ask.workers) before.lanes after.lanes × IsStreamShut ask.tcp before.stream after.stream)
   pub rest : after ≡ record before { lanes = after.lanes; stream = after.stream }
 
 -- All ports and the streams were opened, but one of the further feeds was not, and none behind it.
-pub record IsFeedUnopened (ask : Service) (before after : Lent) (result : Status) : Type 0 where
+pub record IsFeedUnopened (ask : Service) (before after : LentTold) (result : Status) : Type 0 where
   pub why : result ≡ status.SourceFault
   pub opened : AreOpened ask.listen (all_ready ask.workers) before.lanes after.lanes
   pub stream : IsStreamReady ask.tcp before.stream after.stream
@@ -158,7 +158,7 @@ pub record IsFeedUnopened (ask : Service) (before after : Lent) (result : Status
   pub rest : after ≡ record before { lanes = after.lanes; stream = after.stream; more = after.more }
 
 -- The ports, the streams and the further feeds were opened, but the put of the first map's text failed.
-pub record IsUnput (ask : Service) (first : Version) (before after : Lent) (result : Status) : Type 0 where
+pub record IsUnput (ask : Service) (first : Version) (before after : LentTold) (result : Status) : Type 0 where
   pub why : result ≡ status.SinkFault
   pub opened : AreOpened ask.listen (all_ready ask.workers) before.lanes after.lanes
   pub stream : IsStreamReady ask.tcp before.stream after.stream
@@ -168,7 +168,7 @@ pub record IsUnput (ask : Service) (first : Version) (before after : Lent) (resu
   pub rest : after ≡ record before { lanes = after.lanes; stream = after.stream; more = after.more; maps = after.maps }
 
 -- The ports, the streams and the further feeds were opened, and the first map's text was put.
-pub record IsStarted (ask : Service) (first : Version) (before after : Lent) : Type 0 where
+pub record IsStarted (ask : Service) (first : Version) (before after : LentTold) : Type 0 where
   pub opened : AreOpened ask.listen (all_ready ask.workers) before.lanes after.lanes
   pub stream : IsStreamReady ask.tcp before.stream after.stream
   pub named : AreNamed ask.more (all_ready (length ask.more)) before.more after.more
@@ -177,7 +177,7 @@ pub record IsStarted (ask : Service) (first : Version) (before after : Lent) : T
   pub rest : after ≡ record before { lanes = after.lanes; stream = after.stream; more = after.more; maps = after.maps }
 
 -- The feeds were worked and the first lanes were served, and that for conversations where it is asked for, over one history of published maps that goes on from the first one; further feeds that were not asked for are untouched. The status is that of their ends, and each fault came with what it is a fault of: the count of a feed, of an output or of a door, eight more on that of a port or of the streams, as many turns as there may be, or a serial that was not published. The feeds' counts stood where no source's fault is answered, but for several feeds where an output's is, and those of both outputs where no output's is answered.
-pub record IsServed (turns : ℕ) (ask : Service) (first : Version) (before after : Lent) (result : Status) : Type 0 where
+pub record IsServed (turns : ℕ) (ask : Service) (first : Version) (before after : LentTold) (result : Status) : Type 0 where
   pub end : FeedEnd
   pub ends : List Ended
   pub stream_end : Option Ended
@@ -196,21 +196,21 @@ pub record IsServed (turns : ℕ) (ask : Service) (first : Version) (before afte
   pub later : (before.feed.faults ≤ after.feed.faults) × (before.out.faults ≤ after.out.faults) × (before.maps.faults ≤ after.maps.faults) × NoneFell before.more after.more
 
 -- what follows where the map cell was opened with a first version
-abbrev pub IsFirstSession : ℕ → Service → Version → Lent → Lent → Status → Type 0
+abbrev pub IsFirstSession : ℕ → Service → Version → LentTold → LentTold → Status → Type 0
 IsFirstSession turns ask first before after result = IsPortUnopened ask before after result
     ⊎ IsFeedUnopened ask before after result
     ⊎ IsUnput ask first before after result
     ⊎ ((result ≡ status.NoMemory) × IsStarted ask first before after)
-    ⊎ ((started : Lent) × IsStarted ask first before started × IsServed turns ask first started after result)
+    ⊎ ((started : LentTold) × IsStarted ask first before started × IsServed turns ask first started after result)
 
 -- the first version of a topology: serial 0, its own numbers, and a good map, mapped from scratch
 abbrev pub IsFirstOf : Plan → Version → Type 0
 IsFirstOf t first = IsFirst t (record { history = first ∷ []; newest = first }) × IsFromScratch t.market first.lines
 
 -- what follows where a topology was read
-abbrev pub IsSession : ℕ → Service → Plan → Lent → Lent → Status → Type 0
+abbrev pub IsSession : ℕ → Service → Plan → LentTold → LentTold → Status → Type 0
 IsSession turns ask topology before after result = IsUnopened ask before after result
-    ⊎ ((placed : Lent) × (first : Version) × IsPlaced ask before placed × IsFirstOf topology first × IsFirstSession turns ask first placed after result)
+    ⊎ ((placed : LentTold) × (first : Version) × IsPlaced ask before placed × IsFirstOf topology first × IsFirstSession turns ask first placed after result)
 
 -- The topology was refused, with its text on the output or a beginning of it; or it could not be loaded, or memory was wanting.
 pub record IsUnread (ask : Service) (before after : Surroundings) (result : Status) : Type 0 where

@@ -1,4 +1,4 @@
--- What status 0 of `serve` says.
+-- What status 0 of `serve` says. Begin at the end, with `IsWellServed`; of one worker's replies, with `IsWellDone`.
 use Rattle.std.specs.Prelude.{◌≡◌, ◌⊎◌, ℕ, zero, suc, ◌+◌, ◌≤◌, All, Bool, List, [], ◌∷◌, ◌++◌, Option, None, Some, fold, length, map, take}
 use Rattle.std.specs.List.{flat_map, range_with_len}
 use Rattle.outside.specs.Faults.{BothTell, raised}
@@ -17,7 +17,7 @@ use Rattle.demand_feed.specs.declared.run.FeedEnd.TheVariants as feed
 use Rattle.mapper.specs.Scenes.{IsPrinted}
 use Rattle.mapper.specs.Words.{map_text}
 use Rattle.drive.specs.Done.{LaneTold, StreamLaneTold, floor_behind}
-use Rattle.drive.specs.Driven.{Lent, Succeeds, scene_at}
+use Rattle.drive.specs.Driven.{LentTold, Succeeds, scene_at}
 use Rattle.drive.specs.Feeds.{AreFed}
 use Rattle.glb.specs.Words.{Service}
 use Rattle.addr_text.specs.declared.address.Listen.{Listen}
@@ -95,8 +95,8 @@ pub record IsWellServed (turns : ℕ) (ask : Service) (before after : Surroundin
   pub is_first : IsFirstOf topology first
   pub goes_on : GoesOn Succeeds (first ∷ []) rest
   pub texts : BothTell before.lent.maps.past after.lent.maps.past (IsPrinted (map map_text (first ∷ rest)))
-  pub placed : Lent
-  pub started : Lent
+  pub placed : LentTold
+  pub started : LentTold
   pub place : IsPlaced ask before.lent placed
   pub start : IsStarted ask first placed started
   pub fed : AreFed topology turns feed.Ended started.feed (take (length ask.more) started.more) after.lent.feed (take (length ask.more) after.lent.more) (scene_at first (first ∷ []) started) (scene_at newest (first ∷ rest) after.lent)

@@ -13,7 +13,7 @@ use Rattle.outside.specs.declared.port.Opening.{Opening}
 use Rattle.outside.specs.declared.port.Opening.TheVariants as opening
 use Rattle.mapper.specs.Scenes.{IsCutBehind, IsPrinted}
 use Rattle.drive.specs.Done.{LaneTold, StreamLaneTold}
-use Rattle.drive.specs.Driven.{Lent}
+use Rattle.drive.specs.Driven.{LentTold}
 use Rattle.glb.specs.Words.{Service}
 use Rattle.glb.specs.declared.starting.Start.{Start}
 use Rattle.glb.specs.declared.starting.Start.TheVariants as start
@@ -78,7 +78,7 @@ abbrev pub status_at : FeedEnd → List (Option Ended) → Option Ended → Stat
 status_at end places stream = status_of end (has_any is_port_fault places stream) (has_any is_spent places stream) (has_any is_cell_fault places stream)
 
 -- no count of a session fell, a fault of a feed or of an output came with its count, and these counts stand where their fault is not answered, those of several feeds where no output's fault is answered either
-pub record IsSessionLater (ask : Service) (before after : Lent) (result : Status) : Type 0 where
+pub record IsSessionLater (ask : Service) (before after : LentTold) (result : Status) : Type 0 where
   pub feed : before.feed.faults ≤ after.feed.faults
   pub out : before.out.faults ≤ after.out.faults
   pub maps : before.maps.faults ≤ after.maps.faults

@@ -20,7 +20,7 @@ use Rattle.big_run.specs.Summary as world
 use Rattle.big_run.specs.declared.summary.Summary.{Summary}
 use Rattle.mapper.specs.Scenes.{IsCutBehind, IsPrinted}
 use Rattle.mapper.specs.Words.{map_text}
-use Rattle.drive.specs.Driven.{Lent}
+use Rattle.drive.specs.Driven.{LentTold}
 use Rattle.glb.specs.declared.status.Status.{Status}
 use Rattle.glb.specs.declared.status.Status.TheVariants as status
 use Rattle.glb.specs.Told.{Stage, Surroundings, outside_of}
@@ -51,7 +51,7 @@ use Rattle.headline.proofs.Serving.{AreIdle, all_done, all_idle, all_maps, all_o
 
 -- SERVE
 
-lanes_are : (a b : Lent) → a.lanes ≡ b.lanes → AreIdle b.lanes a.lanes
+lanes_are : (a b : LentTold) → a.lanes ≡ b.lanes → AreIdle b.lanes a.lanes
 lanes_are a b same = subst (AreIdle b.lanes) (sym same) (all_same b.lanes)
 
 is_ok : (s : Status) → (s ≡ status.Ok) ⊎ (s ≡ status.Ok → ⊥)
@@ -67,7 +67,7 @@ is_ok status.NoMemory = inr (λ h. cc)
 is_ok status.CellFault = inr (λ h. cc)
 
 placed_stream : (ask : Service) (before placed : Stage) → IsPlaced ask before placed → IsStreamIdle before.lent.stream placed.lent.stream
-placed_stream ask before placed place = stream_same placed.lent.stream before.lent.stream (ap (λ (l : Lent). l.stream) place.lent)
+placed_stream ask before placed place = stream_same placed.lent.stream before.lent.stream (ap (λ (l : LentTold). l.stream) place.lent)
 
 -- nothing came and nothing was replied
 abbrev AreStill : Stage → Stage → Type 0
@@ -179,7 +179,7 @@ served turns ask t first before after placed started result plan says not_ok pla
       good = good;
       history = (history_is t first s.driven.rest plan is_first s.driven.goes_on).1;
       fed = λ ok. absurd (not_ok ok);
-      put = put_by t turns (length ask.more) first s.driven.rest s.end before.stage.lent placed.lent started.lent after.stage.lent s.driven.newest (ap (λ (l : Lent). l.maps) place.lent) start.put s.driven.feed;
+      put = put_by t turns (length ask.more) first s.driven.rest s.end before.stage.lent placed.lent started.lent after.stage.lent s.driven.newest (ap (λ (l : LentTold). l.maps) place.lent) start.put s.driven.feed;
       all_put = λ ok. absurd (not_ok ok);
       lanes = all_done t turns first s.driven.rest 0 result s.ends before.stage.lent.lanes started.lent.lanes after.stage.lent.lanes is_first.0.plan good not_ok still.0 s.driven.lanes;
       stream = subst (λ n. IsStreamLane n (Some t) (first ∷ s.driven.rest) result before.stage.lent.stream after.stage.lent.stream) s.as_many (stream_done t turns first s.driven.rest (length s.ends) result before.stage.lent.stream started.lent.stream after.stage.lent.stream s.stream_end is_first.0.plan good not_ok still.1 s.driven.stream);
@@ -192,28 +192,28 @@ cut_first first b a h = tells_so b a (IsCutBehind [] (map_text first)) (λ x y. 
 session : (turns : ℕ) (ask : Service) (t : Plan) (first : Version) (before after : Surroundings) (placed : Stage) (result : Status) → IsPlan t → Says topology_file before.files ask.topology t → (result ≡ status.Ok → ⊥) → IsPlaced ask before.stage placed → IsFirstOf t first
     → IsFirstSession turns ask first placed after.stage result → IsServing ask before after result
 session turns ask t first before after placed result plan says not_ok place is_first (inl shut) =
-    let same = ap (λ (l : Lent). l.maps) shut.lent ∙ ap (λ (l : Lent). l.maps) place.lent in
+    let same = ap (λ (l : LentTold). l.maps) shut.lent ∙ ap (λ (l : LentTold). l.maps) place.lent in
     nothing ask before after result (behind ask before.stage placed after.stage place (elim shut.opened [
       | inl some ↦ (opened_idle ask.listen (then_failed some.0) placed.lent.lanes after.stage.lent.lanes some.2, stream_same after.stage.lent.stream placed.lent.stream some.3)
       | inr all ↦ (opened_idle ask.listen (all_ready ask.workers) placed.lent.lanes after.stage.lent.lanes all.0, stream_shut ask.tcp placed.lent.stream after.stage.lent.stream all.1)
     ])) same
 session turns ask t first before after placed result plan says not_ok place is_first (inr (inl shut)) =
-    let same = ap (λ (l : Lent). l.maps) shut.lent ∙ ap (λ (l : Lent). l.maps) place.lent in
+    let same = ap (λ (l : LentTold). l.maps) shut.lent ∙ ap (λ (l : LentTold). l.maps) place.lent in
     nothing ask before after result (behind ask before.stage placed after.stage place (opened_idle ask.listen (all_ready ask.workers) placed.lent.lanes after.stage.lent.lanes shut.opened, stream_ready ask.tcp placed.lent.stream after.stage.lent.stream shut.stream)) same
 session turns ask t first before after placed result plan says not_ok place is_first (inr (inr (inl unput))) =
     one ask t first before after result says (first_maps t first plan is_first) (history_is t first [] plan is_first tt).1 not_ok
     (behind ask before.stage placed after.stage place (opened_idle ask.listen (all_ready ask.workers) placed.lent.lanes after.stage.lent.lanes unput.opened, stream_ready ask.tcp placed.lent.stream after.stage.lent.stream unput.stream))
-    (subst (λ m. BothTell m after.stage.lent.maps (λ x y. ArePut (first ∷ []) x y ⊎ ArePutInPart (first ∷ []) x y)) (ap (λ (l : Lent). l.maps) place.lent) (cut_first first placed.lent.maps after.stage.lent.maps unput.cut))
+    (subst (λ m. BothTell m after.stage.lent.maps (λ x y. ArePut (first ∷ []) x y ⊎ ArePutInPart (first ∷ []) x y)) (ap (λ (l : LentTold). l.maps) place.lent) (cut_first first placed.lent.maps after.stage.lent.maps unput.cut))
 session turns ask t first before after placed result plan says not_ok place is_first (inr (inr (inr (inl want)))) =
     one ask t first before after result says (first_maps t first plan is_first) (history_is t first [] plan is_first tt).1 not_ok (begun ask first before.stage placed after.stage place want.1)
-    (subst (λ m. BothTell m after.stage.lent.maps (λ x y. ArePut (first ∷ []) x y ⊎ ArePutInPart (first ∷ []) x y)) (ap (λ (l : Lent). l.maps) place.lent) (either (first ∷ []) placed.lent.maps after.stage.lent.maps (all_put (first ∷ []) placed.lent.maps after.stage.lent.maps want.1.put)))
+    (subst (λ m. BothTell m after.stage.lent.maps (λ x y. ArePut (first ∷ []) x y ⊎ ArePutInPart (first ∷ []) x y)) (ap (λ (l : LentTold). l.maps) place.lent) (either (first ∷ []) placed.lent.maps after.stage.lent.maps (all_put (first ∷ []) placed.lent.maps after.stage.lent.maps want.1.put)))
 session turns ask t first before after placed result plan says not_ok place is_first (inr (inr (inr (inr (started, start, s))))) = served turns ask t first before after placed started result plan says not_ok place is_first start s
 
 run : (turns : ℕ) (ask : Service) (before after : Surroundings) (result : Status) → (result ≡ status.Ok → ⊥) → IsServeRun turns ask before after result → IsServing ask before after result
 run turns ask before after result not_ok (inl unread) =
-    nothing ask before after result (lanes_are after.stage.lent before.stage.lent (ap (λ (l : Lent). l.lanes) unread.rest.lent), stream_same after.stage.lent.stream before.stage.lent.stream (ap (λ (l : Lent). l.stream) unread.rest.lent)) (ap (λ (l : Lent). l.maps) unread.rest.lent)
+    nothing ask before after result (lanes_are after.stage.lent before.stage.lent (ap (λ (l : LentTold). l.lanes) unread.rest.lent), stream_same after.stage.lent.stream before.stage.lent.stream (ap (λ (l : LentTold). l.stream) unread.rest.lent)) (ap (λ (l : LentTold). l.maps) unread.rest.lent)
 run turns ask before after result not_ok (inr (t, plan, says, inl unopened)) =
-    nothing ask before after result (asked_idle unopened.asked.0 before.stage.lent.lanes after.stage.lent.lanes unopened.asked.2, stream_same after.stage.lent.stream before.stage.lent.stream (ap (λ (l : Lent). l.stream) unopened.lent)) (ap (λ (l : Lent). l.maps) unopened.lent)
+    nothing ask before after result (asked_idle unopened.asked.0 before.stage.lent.lanes after.stage.lent.lanes unopened.asked.2, stream_same after.stage.lent.stream before.stage.lent.stream (ap (λ (l : LentTold). l.stream) unopened.lent)) (ap (λ (l : LentTold). l.maps) unopened.lent)
 run turns ask before after result not_ok (inr (t, plan, says, inr (placed, first, place, is_first, rest))) = session turns ask t first before after placed result plan says not_ok place is_first rest
 
 -- THE OTHER COMMANDS

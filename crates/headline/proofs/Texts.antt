@@ -20,7 +20,7 @@ use Rattle.mapper.specs.Feeds.{AllWorked, WorkWasCut, first_end}
 use Rattle.mapper.specs.Items.{AllWork, WorksAs}
 use Rattle.mapper.specs.Scenes.{IsAt, IsCutAt, IsCutBehind, IsPrinted, Scene, scene}
 use Rattle.mapper.specs.Words.{map_text}
-use Rattle.drive.specs.Driven.{Lent}
+use Rattle.drive.specs.Driven.{LentTold}
 use Rattle.drive.specs.Feeds.{AreFed, FeedTold}
 use Rattle.glb.specs.Feeds.{with_feeds}
 use Rattle.headline.specs.Runs.{ArePut, ArePutInPart, text_of}
@@ -155,7 +155,7 @@ put_more first rest a b c one more = elim more [
     begins : b.bytes ≡ a.bytes ++ text_of first
     begins = one.bytes ∙ ap (λ xs. a.bytes ++ xs) (texts_are (first ∷ []) ∙ append-nil (text_of first))
 
-pub put_by : (t : Plan) (turns count : ℕ) (first : Version) (rest : List Version) (end : FeedEnd) (before placed started after : Lent) (newest : Version) → placed.maps ≡ before.maps → BothTell placed.maps started.maps (IsPrinted (map_text first ∷ []))
+pub put_by : (t : Plan) (turns count : ℕ) (first : Version) (rest : List Version) (end : FeedEnd) (before placed started after : LentTold) (newest : Version) → placed.maps ≡ before.maps → BothTell placed.maps started.maps (IsPrinted (map_text first ∷ []))
     → AreFed first.plan turns end (with_feeds count started).feed (with_feeds count started).more (with_feeds count after).feed (with_feeds count after).more (scene first (first ∷ []) started.out started.maps started.pace) (scene newest (first ∷ rest) after.out after.maps after.pace)
     → BothTell before.maps after.maps (λ b a. ArePut (first ∷ rest) b a ⊎ ArePutInPart (first ∷ rest) b a)
 put_by t turns count first rest end before placed started after newest same put fed =

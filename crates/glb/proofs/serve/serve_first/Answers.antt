@@ -1,6 +1,6 @@
 use Rattle.std.proofs.Common.{rules, ◌≡◌, [], ◌++◌, append-nil, length, map, ap, sym, ◌∙◌}
 use Rattle.std.proofs.lemmas.List.{length-map, map-append}
-use Rattle.drive.specs.Driven.{Lent}
+use Rattle.drive.specs.Driven.{LentTold}
 use Rattle.drive.specs.Told.{lent_of}
 use Rattle.glb.specs.Commands.{service_asked}
 use Rattle.glb.specs.Starting.{Begun}
@@ -22,7 +22,7 @@ returns-in-Err-clause-served g c =
     let served : c.all-1.given.0 ≡ c.drive.new.lent.lanes.now = search rules in
     let all = ap (λ xs. xs ++ c.split_at_mut-opened.result.1.now) (opened ∙ n.0.1) ∙ sym c.split_at_mut-opened.ensures.value in
     let lanes = ap (λ xs. xs ++ c.split_at_mut-all.result.1.now) (served ∙ n.0.4) ∙ sym c.split_at_mut-all.ensures.value in
-    let before : Lent = lent_of g.S.Source.told g.N.Source.told g.K.Sink.told g.M.Pace.told c.args.lent.now c.args.stream.now in
+    let before : LentTold = lent_of g.S.Source.told g.N.Source.told g.K.Sink.told g.M.Pace.told c.args.lent.now c.args.stream.now in
     let behind : Begun = record { more = map g.N.Source.told c.start_lanes.new.feeds; maps = g.K.Sink.told c.start_lanes.new.maps; lanes = c.start_lanes.new.lanes; stream = c.start_lanes.new.stream } in
     let begin = starts (service_asked c.args.service.now) c.args.crew.mapper.newest c.text.result.now before behind c.text.ensures c.in-Ready.ensures.start in
     unfed_session _ (service_asked c.args.service.now) _ _ _ _ begin
@@ -39,7 +39,7 @@ returns-in-Ok-clause-served g c =
     let front : c.start_lanes.new.lanes ≡ c.split_at_mut-all.result.0.now = c.split_at_mut-all.ensures.value ∙ ap (λ l. c.split_at_mut-all.result.0.now ++ l) none ∙ append-nil c.split_at_mut-all.result.0.now in
     let lanes : c.all-1.given.0 ++ c.split_at_mut-all.result.1.now ≡ c.drive.new.lent.lanes.now = ap (λ l. c.all-1.given.0 ++ l) none ∙ append-nil c.all-1.given.0 ∙ served in
     let tell = g.N.Source.told in
-    let before : Lent = lent_of g.S.Source.told tell g.K.Sink.told g.M.Pace.told c.args.lent.now c.args.stream.now in
+    let before : LentTold = lent_of g.S.Source.told tell g.K.Sink.told g.M.Pace.told c.args.lent.now c.args.stream.now in
     let behind : Begun = record { more = map tell c.start_lanes.new.feeds; maps = g.K.Sink.told c.start_lanes.new.maps; lanes = c.start_lanes.new.lanes; stream = c.start_lanes.new.stream } in
     let begin = starts (service_asked c.args.service.now) c.args.crew.mapper.newest c.text.result.now before behind c.text.ensures c.in-Ready.ensures.start in
     rw (opened, lanes)
