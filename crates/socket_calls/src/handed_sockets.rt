@@ -1,10 +1,8 @@
 //! Sockets that were handed in by who started the process, as systemd does it (LISTEN_FDS and LISTEN_PID, sd_listen_fds(3)).
 //! They outlive the process: what comes while none runs waits in their buffers.
 //!
-//! Proved is that no other descriptors are looked at than those that may have been handed in, and that the calls are made as
-//! the C library wants them. That a descriptor is what the environment says of it has to be trusted.
-#![tactic(auto)]
-
+//! Proved is that no other descriptors are looked at than those that may have been handed in. That a descriptor is what the
+//! environment says of it has to be trusted.
 ghost use Rattle.std.specs.Prelude.{◌≡◌, ◌+◌, ◌<◌, ◌≤◌, ◌≤ℤ◌, IfOk, IfSome, pos};
 ghost use Rattle.std.specs.Net.Udp.{udp_raw_fd};
 ghost use Rattle.std.specs.Net.Tcp.{listener_raw_fd};

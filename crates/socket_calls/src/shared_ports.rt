@@ -1,10 +1,7 @@
 //! Sockets of UDP that have one address and port together (SO_REUSEPORT), how much may wait at one (SO_RCVBUF), and
-//! connections of TCP that send at once (TCP_NODELAY): calls of the C library for which std has no name.
+//! connections of TCP that send at once (TCP_NODELAY).
 //!
-//! Proved is that these calls are made as the C library wants them, and that no descriptor is taken from a call that failed.
-//! That the system does what they ask for has to be trusted.
-#![tactic(auto)]
-
+//! Proved is that no descriptor is taken from a call that failed.
 ghost use Rattle.std.specs.Prelude.{IfErr, IfOk, pos, ◌<ℤ◌, ◌≤ℤ◌};
 ghost use Rattle.std.specs.Net.Udp.{udp_raw_fd};
 
