@@ -274,8 +274,8 @@ impl Ears {
         most_of_one: usize,
         turns: &mut u64,
     ) -> Taken
-        ensures taken { IsTakenIn come.peer.addr
-            most_of_one come.time result turns.old turns.new seats.old rooms.old seats.new rooms.new }
+        ensures taken { IsTakenIn come.peer.addr most_of_one come.time result
+            turns.old turns.new seats.old rooms.old seats.new rooms.new }
         ensures turns { (turns.old ≤ turns.new) × (turns.new ≤ raised turns.old 1) }
     {
         let Come { stream, peer, time } = come;
