@@ -4,7 +4,7 @@ ghost use Rattle.std.specs.Prelude.{◌≡◌, ℕ, ◌<◌, Some, length, IfOk,
 ghost use Rattle.map_model.specs.Market.{demand_of, pool_of};
 ghost use Rattle.map_model.specs.Allocation.{IsOffer, placed};
 ghost use Rattle.evict.specs.Standing.{IsReady};
-ghost use Rattle.circle_laws.specs.Circles.{IsLastPlace};
+ghost use Rattle.map_laws.specs.Circles.{IsLastPlace};
 ghost use Rattle.best_check.specs.Leads.{AreLeads};
 ghost use Rattle.best_check.specs.Tables.{AreNextAt};
 
