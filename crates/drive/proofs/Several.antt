@@ -453,6 +453,11 @@ pub some_told : {T : Type 0} (tell : T → DeviceState Fed) (xs : List T) → xs
 some_told tell [] some e = some refl
 some_told tell (x ∷ xs) some e = cc
 
+-- what is left alone
+pub all_same : (xs : List (DeviceState Fed)) → NoneFell xs xs
+all_same [] = refl
+all_same (x ∷ xs) = (omega arith, all_same xs)
+
 pub no_more : {T : Type 0} (xs : List T) → length xs ≡ 0 → xs ≡ []
 no_more [] e = refl
 no_more (x ∷ xs) e = absurd (omega (arith, e))

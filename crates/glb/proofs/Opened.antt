@@ -1,5 +1,5 @@
 -- Ports that are opened one after another.
-use Rattle.std.proofs.Common.{◌≡◌, ℕ, suc, ◌<◌, List, [], ◌∷◌, ◌++◌, length, sym, subst, arith}
+use Rattle.std.proofs.Common.{◌≡◌, ℕ, suc, ◌<◌, List, [], ◌∷◌, ◌++◌, length, ap, sym, subst, arith}
 use Rattle.std.specs.Prelude.{◌-◌}
 use Rattle.addr_text.specs.declared.address.Listen.{Listen}
 use Rattle.outside.specs.declared.port.Opening.{Opening}
@@ -7,6 +7,13 @@ use Rattle.outside.specs.declared.port.Opening.TheVariants as opening
 use Rattle.drive.specs.Done.{LaneTold}
 use Rattle.glb.specs.Serve.{AreOpened, all_ready, then_failed}
 use Rattle.glb.specs.Starting.{HasOpened}
+
+-- lanes behind those that were opened
+opened_more : (listen : Listen) (rs : List Opening) (a c b : List LaneTold) → AreOpened listen rs a c → AreOpened listen rs (a ++ b) (c ++ b)
+opened_more listen [] a c b h = ap (λ xs. xs ++ b) h
+opened_more listen (r ∷ rs) (x ∷ a) (y ∷ c) b h = (h.0, opened_more listen rs a c b h.1)
+opened_more listen (r ∷ rs) [] c b h = absurd h
+opened_more listen (r ∷ rs) (x ∷ a) [] b h = absurd h
 
 -- one lane was opened, and then others
 then_opened : (listen : Listen) (rs : List Opening) (a c b d : List LaneTold) → length a ≡ 1 → AreOpened listen (opening.Ready ∷ []) a c → AreOpened listen rs b d → AreOpened listen (opening.Ready ∷ rs) (a ++ b) (c ++ d)

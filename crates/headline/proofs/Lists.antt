@@ -1,9 +1,9 @@
 -- Lists: what is in them, and sums of those that pass a test.
-use Rattle.std.proofs.Common.{◌≡◌, ◌⊎◌, inl, inr, ℕ, zero, suc, ◌+◌, ◌<◌, ◌≤◌, Bool, true, false, cond, if◌then◌else◌, List, [], ◌∷◌, ◌++◌, length, map, filter, sum, sum_by, Contains, slice_index_or, slice_get, find, flat_map, filter_map, Option, None, Some, option_map, refl, ap, sym, subst, ◌∙◌, arith}
-use Rattle.std.specs.List.{range_with_len, list_all, cons_option}
+use Rattle.std.proofs.Common.{◌≡◌, ◌⊎◌, inl, inr, ℕ, zero, suc, ◌+◌, ◌<◌, ◌≤◌, Bool, true, false, cond, ◌==◌, if◌then◌else◌, List, [], ◌∷◌, ◌++◌, length, map, filter, sum, sum_by, Contains, slice_index_or, slice_get, find, flat_map, filter_map, Option, None, Some, option_map, refl, ap, sym, subst, ◌∙◌, arith}
+use Rattle.std.specs.List.{range_with_len, list_any, list_all, cons_option}
 use Rattle.std.proofs.lemmas.List.Sums.{sum_by-cons}
 use Rattle.std.proofs.lemmas.Option.{slice_get-map, slice_get-get_or, same_Some, none-some}
-use Rattle.std.proofs.lemmas.Bool.{and_parts}
+use Rattle.std.proofs.lemmas.Bool.{and_parts, or_cases, eqb-true}
 
 -- x is one of these
 abbrev pub In : {X : Type 0} → List X → X → Type 0
@@ -93,6 +93,10 @@ found {X = X} test (z ∷ zs) x h = by (λ e. found test zs x e) (test z) refl h
     by : (find test zs ≡ Some x → In zs x × (test x ≡ true)) → (b : Bool) → test z ≡ b → cond b (Some z) (find test zs) ≡ Some x → In (z ∷ zs) x × (test x ≡ true)
     by rest true is e = let same : z ≡ x = same_Some z x e in (inl same, subst (λ (v : X). test v ≡ true) same is)
     by rest false is e = let r = rest e in (inr r.0, r.1)
+
+pub any_in : (xs : List ℕ) (n : ℕ) → list_any (λ x. x == n) xs ≡ true → In xs n
+any_in [] n h = absurd (cc)
+any_in (z ∷ zs) n h = elim (or_cases _ _ h) [ inl e ↦ inl (eqb-true z n e) | inr r ↦ inr (any_in zs n r) ]
 
 pub all_in : {X : Type 0} (test : X → Bool) (xs : List X) (x : X) → list_all test xs ≡ true → In xs x → test x ≡ true
 all_in test [] x h i = absurd i

@@ -1,6 +1,6 @@
 -- Each step of the cell keeps its rule.
 use Rattle.std.proofs.Common.{◌≡◌, ◌≢◌, ℕ, true, List, [], ◌∷◌, ◌++◌, set, refl, sym, subst, ⊎_elim}
-use mathlib.Core.Option.{some}
+use mathlib.Core.Option.{some, some-ne-none}
 use lib.ListN.{get_elem?}
 use Rattle.atomic_table.proofs.Lists.{at_set, at_snoc}
 use Rattle.map_cell.specs.declared.tag.Tag.{Tag}
@@ -18,6 +18,9 @@ more b views w h ok j u e = ⊎_elim (λ (t : get_elem? views j ≡ some u). h j
 
 pub admits : (x : CopyState) (views : List Tag) → Holds x views → Holds x (views ++ unknown ∷ [])
 admits x views h = record { book = more (tag_of x.book) views unknown h.book (λ e. absurd cc); sealed = h.sealed }
+
+pub opens : (x : CopyState) → IsSealed x.history x.version → Holds x (unknown ∷ [])
+opens x s = record { book = more (tag_of x.book) [] unknown (λ seat v e. absurd (some-ne-none v (sym e))) (λ e. absurd cc); sealed = s }
 
 pub looks : (x : CopyState) (seat : ℕ) (v : Tag) (views : List Tag) → Holds x views → get_elem? views seat ≡ some v
     → (w : Tag) × Holds x (set views seat w) × ((v.known ≡ true → v ≡ tag_of x.book) × IsSealed x.history x.version × (w ≡ v))

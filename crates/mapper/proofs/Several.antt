@@ -7,6 +7,7 @@ use Rattle.mapper.specs.Control.{Course, start}
 use Rattle.mapper.specs.Scenes.{IsAt, IsCutAt, Scene}
 use Rattle.outside.specs.Faults.{BothTell}
 use Rattle.mapper.specs.Scenes.{IsPrinted}
+use Rattle.mapper.proofs.Courses.{starts_at}
 use Rattle.mapper.proofs.Merging.{merges}
 use Rattle.mapper.proofs.Giving.{gives}
 use Rattle.mapper.specs.Feeds.{AllWorked, HasMerged, WorkWasCut}
@@ -27,6 +28,10 @@ pub cut_next : (items all : List Item) (x : Item) (before now then : Scene) → 
 cut_next items all x before now then is h f =
     let r = f h.course h.told in
     record { done = items; item = x; later = []; course = h.course; next = r.0; parts = is; works = h.works; last = r.1; cut = r.2 }
+
+-- ahead of all items
+pub all_none : (items : List Item) (now : Scene) → items ≡ [] → AllWorked items now now
+all_none items now is = subst (λ xs. AllWorked xs now now) (sym is) (record { course = start now.newest; works = refl; told = starts_at now })
 
 -- items behind the one that was cut
 pub cut_more : (items later all : List Item) (before now : Scene) → all ≡ items ++ later → WorkWasCut items before now → WorkWasCut all before now
