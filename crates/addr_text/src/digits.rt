@@ -27,7 +27,8 @@ fn is_plain(text: &[u8]) -> bool
 /// The number that decimal digits stand for, where it is no higher than the limit.
 fn digits_value(text: &[u8], limit: u32) -> Option<u32>
     requires { limit ≤ 65535 }
-    ensures { result ≡ only_if (λ n. nat_le n limit) (option_map (in_base 10) (all_of decimal_digit text.now)) }
+    ensures { result ≡ only_if (λ n. nat_le n limit)
+        (option_map (in_base 10) (all_of decimal_digit text.now)) }
 {
     let mut value = 0;
     for b in text {

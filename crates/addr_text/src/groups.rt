@@ -10,9 +10,11 @@ use text_parts::{after, before, position_of};
 
 /// Adds a number of 0 to 255, where there is one and room for it.
 fn push_number(numbers: &mut ArrayVec<u8, 4>, text: &[u8]) -> bool
-    ensures pushed { result ≡ true → (v : ℕ) × (number_of 255 text.now ≡ Some v) × (numbers.new.items ≡ numbers.old.items ++ v ∷ []) }
+    ensures pushed { result ≡ true → (v : ℕ) × (number_of 255 text.now ≡ Some v)
+        × (numbers.new.items ≡ numbers.old.items ++ v ∷ []) }
     ensures fits { result ≡ true → length numbers.new.items ≤ 4 }
-    ensures not { result ≡ false → (number_of 255 text.now ≡ None) ⊎ (length numbers.old.items ≡ 4) }
+    ensures not { result ≡ false → (number_of 255 text.now ≡ None)
+        ⊎ (length numbers.old.items ≡ 4) }
 {
     match read_number(text, u32::from(u8::MAX)) {
         Some(number) => numbers.try_push(number as u8).is_ok(),
@@ -22,7 +24,8 @@ fn push_number(numbers: &mut ArrayVec<u8, 4>, text: &[u8]) -> bool
 
 /// Numbers joined by dots, at most four.
 fn joined_numbers(text: &[u8]) -> Option<ArrayVec<u8, 4>>
-    ensures { option_map (λ v. v.items) result ≡ only_if (λ ns. nat_le (length ns) 4) (all_of (number_of 255) (parts 46 text.now)) }
+    ensures { option_map (λ v. v.items) result
+        ≡ only_if (λ ns. nat_le (length ns) 4) (all_of (number_of 255) (parts 46 text.now)) }
 {
     let mut numbers = ArrayVec::new();
     let mut rest = text;
@@ -53,7 +56,8 @@ pub fn v4_numbers(text: &[u8]) -> Option<ArrayVec<u8, 4>>
 
 /// Adds a group, where there is one and room for it.
 fn push_group(groups: &mut ArrayVec<u16, 8>, text: &[u8]) -> bool
-    ensures pushed { result ≡ true → (v : ℕ) × (group_of text.now ≡ Some v) × (groups.new.items ≡ groups.old.items ++ v ∷ []) }
+    ensures pushed { result ≡ true → (v : ℕ) × (group_of text.now ≡ Some v)
+        × (groups.new.items ≡ groups.old.items ++ v ∷ []) }
     ensures fits { result ≡ true → length groups.new.items ≤ 8 }
     ensures not { result ≡ false → (group_of text.now ≡ None) ⊎ (length groups.old.items ≡ 8) }
 {
@@ -65,7 +69,8 @@ fn push_group(groups: &mut ArrayVec<u16, 8>, text: &[u8]) -> bool
 
 /// Groups joined by colons, at most eight.
 fn joined_groups(text: &[u8]) -> Option<ArrayVec<u16, 8>>
-    ensures { option_map (λ v. v.items) result ≡ only_if (λ gs. nat_le (length gs) 8) (joined_groups text.now) }
+    ensures { option_map (λ v. v.items) result
+        ≡ only_if (λ gs. nat_le (length gs) 8) (joined_groups text.now) }
 {
     let mut groups = ArrayVec::new();
     let mut rest = text;
@@ -84,7 +89,8 @@ fn joined_groups(text: &[u8]) -> Option<ArrayVec<u16, 8>>
 
 /// The groups on one side of `::`, where there may be none; at most eight.
 fn side_groups(text: &[u8]) -> Option<ArrayVec<u16, 8>>
-    ensures { option_map (λ v. v.items) result ≡ only_if (λ gs. nat_le (length gs) 8) (side_groups text.now) }
+    ensures { option_map (λ v. v.items) result
+        ≡ only_if (λ gs. nat_le (length gs) 8) (side_groups text.now) }
 {
     if text.is_empty() {
         Some(ArrayVec::new())
@@ -151,7 +157,8 @@ fn push_zeros(groups: &mut ArrayVec<u16, 8>, count: usize)
 
 /// The groups on the two sides of `::`, filled.
 fn two_sides(before: &[u8], after: &[u8]) -> Option<ArrayVec<u16, 8>>
-    ensures { option_map (λ v. v.items) result ≡ filled (side_groups before.now) (side_groups after.now) }
+    ensures { option_map (λ v. v.items) result
+        ≡ filled (side_groups before.now) (side_groups after.now) }
 {
     match (side_groups(before), side_groups(after)) {
         (Some(left), Some(right)) => filled(left.as_slice(), right.as_slice()),
@@ -161,7 +168,8 @@ fn two_sides(before: &[u8], after: &[u8]) -> Option<ArrayVec<u16, 8>>
 
 /// Eight groups joined by colons.
 fn eight_groups(text: &[u8]) -> Option<ArrayVec<u16, 8>>
-    ensures { option_map (λ v. v.items) result ≡ only_if (λ gs. length gs == 8) (joined_groups text.now) }
+    ensures { option_map (λ v. v.items) result
+        ≡ only_if (λ gs. length gs == 8) (joined_groups text.now) }
 {
     let groups = joined_groups(text)?;
     if groups.is_full() { Some(groups) } else { None }

@@ -46,7 +46,8 @@ fn longest(groups: &[u16]) -> usize
 pub fn shortened(groups: &[u16]) -> Option<(usize, usize)>
     requires { 0 < length groups.now }
     ensures fits { IfSome result (λ r. r.0 + r.1 ≤ length groups.now) }
-    ensures run { MatchOption result ((j : ℕ) → j < length groups.now → run_at groups.now j < 2) (λ r. IsLongest groups.now r.0 × (r.1 ≡ run_at groups.now r.0) × (2 ≤ r.1)) }
+    ensures run { MatchOption result ((j : ℕ) → j < length groups.now → run_at groups.now j
+        < 2) (λ r. IsLongest groups.now r.0 × (r.1 ≡ run_at groups.now r.0) × (2 ≤ r.1)) }
 {
     let best = longest(groups);
     let len = run_at(groups, best);

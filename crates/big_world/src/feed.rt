@@ -20,7 +20,8 @@ const LINES: u32 = 4;
 /// Another demand of a group.
 fn push_demand(alloc: Global, pen: &mut Pen, groups: u32) -> Result<(), NoMemory>
     requires { 1 ≤ groups }
-    ensures text { OnOk result (pen.new.text.items ≡ pen.old.text.items ++ demand_text groups pen.old.draws.last) }
+    ensures text { OnOk result (pen.new.text.items ≡ pen.old.text.items
+        ++ demand_text groups pen.old.draws.last) }
     ensures last { OnOk result (pen.new.draws.last ≡ behind pen.old.draws.last 2) }
 {
     let group = pen.draws.below(groups);
@@ -33,7 +34,8 @@ fn push_demand(alloc: Global, pen: &mut Pen, groups: u32) -> Result<(), NoMemory
 /// Another capacity of a pool.
 fn push_capacity(alloc: Global, pen: &mut Pen, groups: u32) -> Result<(), NoMemory>
     requires { groups ≤ LARGEST_WORLD }
-    ensures text { OnOk result (pen.new.text.items ≡ pen.old.text.items ++ capacity_text groups pen.old.draws.last) }
+    ensures text { OnOk result (pen.new.text.items ≡ pen.old.text.items
+        ++ capacity_text groups pen.old.draws.last) }
     ensures last { OnOk result (pen.new.draws.last ≡ behind pen.old.draws.last 3) }
 {
     let region = pen.draws.below(regions_of(groups));
@@ -50,7 +52,8 @@ fn push_capacity(alloc: Global, pen: &mut Pen, groups: u32) -> Result<(), NoMemo
 fn push_change(alloc: Global, pen: &mut Pen, groups: u32) -> Result<(), NoMemory>
     requires some { 1 ≤ groups }
     requires most { groups ≤ LARGEST_WORLD }
-    ensures text { OnOk result (pen.new.text.items ≡ pen.old.text.items ++ change_text groups pen.old.draws.last) }
+    ensures text { OnOk result (pen.new.text.items ≡ pen.old.text.items
+        ++ change_text groups pen.old.draws.last) }
     ensures last { OnOk result (pen.new.draws.last ≡ behind_change pen.old.draws.last) }
 {
     if pen.draws.below(2) == 0 {
@@ -65,7 +68,8 @@ fn push_change(alloc: Global, pen: &mut Pen, groups: u32) -> Result<(), NoMemory
 fn push_batch(alloc: Global, pen: &mut Pen, groups: u32) -> Result<(), NoMemory>
     requires some { 1 ≤ groups }
     requires most { groups ≤ LARGEST_WORLD }
-    ensures text { OnOk result (pen.new.text.items ≡ pen.old.text.items ++ batch_text groups pen.old.draws.last) }
+    ensures text { OnOk result (pen.new.text.items ≡ pen.old.text.items
+        ++ batch_text groups pen.old.draws.last) }
     ensures last { OnOk result (pen.new.draws.last ≡ behind_batch pen.old.draws.last) }
 {
     for _line in 0..LINES {
@@ -79,7 +83,9 @@ fn push_batch(alloc: Global, pen: &mut Pen, groups: u32) -> Result<(), NoMemory>
 pub fn push_feed(alloc: Global, pen: &mut Pen, groups: u32) -> Result<(), NoMemory>
     requires some { 1 ≤ groups }
     requires most { groups ≤ LARGEST_WORLD }
-    ensures { OnOk result (pen.new.text.items ≡ pen.old.text.items ++ pieces (λ _. batch_text groups) behind_batch pen.old.draws.last 16 ++ line (codes "stop")) }
+    ensures { OnOk result (pen.new.text.items ≡ pen.old.text.items
+        ++ pieces (λ _. batch_text groups) behind_batch pen.old.draws.last 16
+        ++ line (codes "stop")) }
 {
     for _batch in 0..BATCHES {
         push_batch(alloc, pen, groups)?;

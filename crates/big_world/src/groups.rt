@@ -25,7 +25,8 @@ fn pools_of(groups: u32) -> u32
 
 /// What stands between two items.
 fn push_comma(text: &mut Vec<u8>, item: u32) -> Result<(), NoMemory>
-    ensures { OnOk result (text.new.items ≡ text.old.items ++ (if item == 0 then [] else (44 ∷ 32 ∷ []))) }
+    ensures { OnOk result (text.new.items ≡ text.old.items
+        ++ (if item == 0 then [] else (44 ∷ 32 ∷ []))) }
 {
     if item > 0 {
         text.extend_from_slice(b", ")?;
@@ -62,7 +63,8 @@ fn push_pools(
 /// The scores of a list.
 #[tactic(auto, unfolding(crate::specs::Topology::scores_text))]
 fn push_scores(alloc: Global, pen: &mut Pen, length: u32) -> Result<(), NoMemory>
-    ensures text { OnOk result (pen.new.text.items ≡ pen.old.text.items ++ scores_text pen.old.draws.last length) }
+    ensures text { OnOk result (pen.new.text.items ≡ pen.old.text.items
+        ++ scores_text pen.old.draws.last length) }
     ensures last { OnOk result (pen.new.draws.last ≡ behind pen.old.draws.last length) }
 {
     for place in 0..length {
@@ -129,7 +131,8 @@ fn push_prefixes_line(alloc: Global, text: &mut Vec<u8>, group: u32) -> Result<(
 /// The line of the scores of a list.
 #[tactic(auto, unfolding(crate::specs::Topology::scores_line))]
 fn push_scores_line(alloc: Global, pen: &mut Pen, length: u32) -> Result<(), NoMemory>
-    ensures text { OnOk result (pen.new.text.items ≡ pen.old.text.items ++ scores_line pen.old.draws.last length) }
+    ensures text { OnOk result (pen.new.text.items ≡ pen.old.text.items
+        ++ scores_line pen.old.draws.last length) }
     ensures last { OnOk result (pen.new.draws.last ≡ behind pen.old.draws.last length) }
 {
     pen.text.extend_from_slice(b"scores = [")?;
@@ -141,7 +144,8 @@ fn push_scores_line(alloc: Global, pen: &mut Pen, length: u32) -> Result<(), NoM
 /// The lines of a group ahead of its list.
 #[tactic(auto, unfolding(crate::specs::Topology::demand_line))]
 fn push_head(alloc: Global, text: &mut Vec<u8>, group: u32, demand: u32) -> Result<(), NoMemory>
-    ensures { OnOk result (text.new.items ≡ text.old.items ++ line (codes "[[group]]") ++ demand_line demand ++ name_line (group_name group)) }
+    ensures { OnOk result (text.new.items ≡ text.old.items ++ line (codes "[[group]]")
+        ++ demand_line demand ++ name_line (group_name group)) }
 {
     text.extend_from_slice(b"[[group]]\n")?;
     push_number(alloc, text, b"demand = ", demand, b"\n")?;
@@ -154,7 +158,8 @@ fn push_head(alloc: Global, text: &mut Vec<u8>, group: u32, demand: u32) -> Resu
 fn push_group(alloc: Global, pen: &mut Pen, groups: u32, group: u32) -> Result<(), NoMemory>
     requires groups { groups ≤ LARGEST_WORLD }
     requires group { group < groups }
-    ensures text { OnOk result (pen.new.text.items ≡ pen.old.text.items ++ group_text groups group pen.old.draws.last) }
+    ensures text { OnOk result (pen.new.text.items ≡ pen.old.text.items
+        ++ group_text groups group pen.old.draws.last) }
     ensures last { OnOk result (pen.new.draws.last ≡ behind_group groups pen.old.draws.last) }
 {
     let pools = pools_of(groups);
@@ -172,8 +177,10 @@ fn push_group(alloc: Global, pen: &mut Pen, groups: u32, group: u32) -> Result<(
 /// All groups.
 pub fn push_groups(alloc: Global, pen: &mut Pen, groups: u32) -> Result<(), NoMemory>
     requires { groups ≤ LARGEST_WORLD }
-    ensures text { OnOk result (pen.new.text.items ≡ pen.old.text.items ++ pieces (group_text groups) (behind_group groups) pen.old.draws.last groups) }
-    ensures last { OnOk result (pen.new.draws.last ≡ ahead (behind_group groups) pen.old.draws.last groups) }
+    ensures text { OnOk result (pen.new.text.items ≡ pen.old.text.items
+        ++ pieces (group_text groups) (behind_group groups) pen.old.draws.last groups) }
+    ensures last { OnOk result (pen.new.draws.last
+        ≡ ahead (behind_group groups) pen.old.draws.last groups) }
 {
     for group in 0..groups {
         push_group(alloc, pen, groups, group)?;

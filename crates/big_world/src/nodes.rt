@@ -27,7 +27,8 @@ pub fn push_number(
     number: u32,
     behind: &[u8],
 ) -> Result<(), NoMemory>
-    ensures { OnOk result (text.new.items ≡ text.old.items ++ ahead.now ++ decimal number ++ behind.now) }
+    ensures { OnOk result (text.new.items ≡ text.old.items ++ ahead.now ++ decimal number
+        ++ behind.now) }
 {
     let digits = number.to_string(alloc)?;
     text.extend_from_slice(ahead)?;
@@ -143,7 +144,8 @@ fn draw_capacity(draws: &mut Draws, node: u32) -> u32
 /// A node.
 #[tactic(auto, unfolding(crate::specs::Topology::node_text))]
 fn push_node(alloc: Global, pen: &mut Pen, node: u32) -> Result<(), NoMemory>
-    ensures text { OnOk result (pen.new.text.items ≡ pen.old.text.items ++ node_text node pen.old.draws.last) }
+    ensures text { OnOk result (pen.new.text.items ≡ pen.old.text.items
+        ++ node_text node pen.old.draws.last) }
     ensures last { OnOk result (pen.new.draws.last ≡ behind pen.old.draws.last 1) }
 {
     let capacity = draw_capacity(&mut pen.draws, node);
@@ -158,7 +160,8 @@ fn push_node(alloc: Global, pen: &mut Pen, node: u32) -> Result<(), NoMemory>
 /// All nodes.
 pub fn push_nodes(alloc: Global, pen: &mut Pen, groups: u32) -> Result<(), NoMemory>
     requires { groups ≤ LARGEST_WORLD }
-    ensures text { OnOk result (pen.new.text.items ≡ pen.old.text.items ++ texts_below (λ p. node_text p (behind pen.old.draws.last p)) (nodes_of groups)) }
+    ensures text { OnOk result (pen.new.text.items ≡ pen.old.text.items
+        ++ texts_below (λ p. node_text p (behind pen.old.draws.last p)) (nodes_of groups)) }
     ensures last { OnOk result (pen.new.draws.last ≡ behind pen.old.draws.last (nodes_of groups)) }
 {
     for node in 0..5 * regions_of(groups) {

@@ -29,7 +29,8 @@ impl Model for Tree {
 
     ghost view = { λ t. record { trees = trees_of t.parents.items; units = t.loads.items } };
 
-    ghost invariant = { λ t. IsMarket (trees_of t.parents.items) × (length t.loads.items ≡ length t.parents.items) };
+    ghost invariant = { λ t. IsMarket (trees_of t.parents.items)
+        × (length t.loads.items ≡ length t.parents.items) };
 }
 
 impl Tree {
@@ -77,7 +78,8 @@ impl Tree {
     /// Puts units under a pool, and so under each node of its path.
     pub fn add(&mut self, pool: NodeId, units: Units)
         requires pool { pool.0 < length self.old.trees.nodes }
-        requires room { OnPath self.old.trees pool.0 (λ n. slice_index self.old.units n + units < 2 ^ 64) }
+        requires room { OnPath self.old.trees pool.0 (λ n. slice_index self.old.units n + units
+            < 2 ^ 64) }
         ensures { AddsUnits self.old self.new pool.0 units }
     {
         add_along(

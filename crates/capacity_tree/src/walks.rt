@@ -46,9 +46,12 @@ pub fn add_along(parents: &[Option<NodeId>], pool: NodeId, units: Units, loads: 
     requires market { IsMarket (trees_of parents.now) }
     requires pool { pool.0 < length parents.now }
     requires size { length loads.old ≡ length parents.now }
-    requires room { (n : ℕ) → n < length loads.old → IsTrue (is_under (trees_of parents.now) n pool.0) → slice_index loads.old n + units < 2 ^ 64 }
+    requires room { (n : ℕ) → n < length loads.old
+        → IsTrue (is_under (trees_of parents.now) n pool.0) → slice_index loads.old n + units
+        < 2 ^ 64 }
     ensures { (n : ℕ) → n < length loads.new → slice_index loads.new n
-        ≡ (if is_under (trees_of parents.now) n pool.0 then slice_index loads.old n + units else slice_index loads.old n) }
+        ≡ (if is_under (trees_of parents.now) n pool.0 then slice_index loads.old n + units
+        else slice_index loads.old n) }
 {
     let mut at = Some(pool);
     for _step in 0..LEVELS {
@@ -64,9 +67,11 @@ pub fn take_along(parents: &[Option<NodeId>], pool: NodeId, units: Units, loads:
     requires market { IsMarket (trees_of parents.now) }
     requires pool { pool.0 < length parents.now }
     requires size { length loads.old ≡ length parents.now }
-    requires held { (n : ℕ) → n < length loads.old → IsTrue (is_under (trees_of parents.now) n pool.0) → units ≤ slice_index loads.old n }
+    requires held { (n : ℕ) → n < length loads.old
+        → IsTrue (is_under (trees_of parents.now) n pool.0) → units ≤ slice_index loads.old n }
     ensures { (n : ℕ) → n < length loads.new → slice_index loads.new n
-        ≡ (if is_under (trees_of parents.now) n pool.0 then slice_index loads.old n - units else slice_index loads.old n) }
+        ≡ (if is_under (trees_of parents.now) n pool.0 then slice_index loads.old n - units
+        else slice_index loads.old n) }
 {
     let mut at = Some(pool);
     for _step in 0..LEVELS {

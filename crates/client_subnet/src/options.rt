@@ -13,7 +13,8 @@ use dns_wire::{EdnsOption, read_option};
 
 /// The first client subnet, with one more option.
 fn kept<'a>(first: Option<&'a [u8]>, next: EdnsOption<'a>) -> Option<&'a [u8]>
-    ensures { option_map (λ x. x.now) result ≡ kept (option_map (λ x. x.now) first.entry) (option_view next.entry) }
+    ensures { option_map (λ x. x.now) result
+        ≡ kept (option_map (λ x. x.now) first.entry) (option_view next.entry) }
 {
     if first.is_none() && next.code == CLIENT_SUBNET {
         return Some(next.octets);

@@ -52,7 +52,8 @@ fn refused_from(instance: &Instance, state: &State, node: NodeId) -> Key
 fn bar_above(instance: &Instance, bars: &[Option<Bar>], node: NodeId) -> Option<Bar>
     requires node { node.0 < length instance.now.nodes }
     requires above { length bars.now ≡ node.0 }
-    ensures { MatchOption (parent_of instance.now node.0) (result ≡ None) (λ p. (p.0 < node.0) × (result ≡ slice_index_or bars.now p.0 None)) }
+    ensures { MatchOption (parent_of instance.now node.0) (result ≡ None) (λ p. (p.0 < node.0)
+        × (result ≡ slice_index_or bars.now p.0 None)) }
 {
     // Tells the prover that parents have lower numbers.
     let _count = instance.nodes();

@@ -24,7 +24,8 @@ fn displaces(instance: &Instance, state: &State, offer: Offer, other: Offer) -> 
     requires ready { IsReady instance.now state.now }
     requires offer { IsOffer instance.now offer.group.0 offer.place }
     requires other { IsOffer instance.now other.group.0 other.place }
-    ensures better { OnTrue result (key_le (key_of instance.now other.group.0 other.place) (key_of instance.now offer.group.0 offer.place) ≡ false) }
+    ensures better { OnTrue result (key_le (key_of instance.now other.group.0 other.place)
+        (key_of instance.now offer.group.0 offer.place) ≡ false) }
     ensures behind { OnTrue result (other.place < slice_index state.now.pointers other.group.0) }
 {
     instance.key(other) > instance.key(offer) && other.place < state.pointer(other.group)
@@ -76,8 +77,10 @@ pub fn circle_at(
     requires ready { IsReady instance.now state.now }
     requires group { group.0 < length instance.now.groups }
     requires some { 0 < slice_index state.now.free group.0 }
-    ensures round { IfOk result (λ found. IfSome found (λ hops. AreRound instance.now state.now hops.items (slice_index state.now.free group.0))) }
-    ensures few { IfOk result (λ found. IfSome found (λ hops. length hops.items ≤ length instance.now.groups + 1)) }
+    ensures round { IfOk result (λ found. IfSome found
+        (λ hops. AreRound instance.now state.now hops.items (slice_index state.now.free group.0))) }
+    ensures few { IfOk result (λ found. IfSome found (λ hops. length hops.items
+        ≤ length instance.now.groups + 1)) }
 {
     let mut hops = Vec::new(alloc);
     let Some(first) = hop_of(instance, state, group) else {

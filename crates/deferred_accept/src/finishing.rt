@@ -20,7 +20,8 @@ fn name(instance: &Instance, state: &State, bars: &[Option<Bar>], offer: Offer) 
     requires ready { IsReady instance.now state.now }
     requires bars { IsBarTable instance.now state.now.lines bars.now }
     requires offer { IsOffer instance.now offer.group.0 offer.place }
-    requires wanted { placed_through state.now.lines offer.group.0 offer.place < demand_of instance.now offer.group.0 }
+    requires wanted { placed_through state.now.lines offer.group.0 offer.place
+        < demand_of instance.now offer.group.0 }
     ensures { result ≡ name_of instance.now state.now.lines offer }
 {
     let by = refuser(instance, state, bars, offer)?;
@@ -42,7 +43,8 @@ fn add_names_of(
     requires ready { IsReady instance.now state.now }
     requires bars { IsBarTable instance.now state.now.lines bars.now }
     requires group { group.0 < length instance.now.groups }
-    ensures { OnOk result (names.new.items ≡ names.old.items ++ due instance.now state.now.lines group.0 0) }
+    ensures { OnOk result (names.new.items ≡ names.old.items
+        ++ due instance.now state.now.lines group.0 0) }
 {
     let demand = u64::from(instance.demand(group));
     let mut through = 0;
@@ -83,7 +85,8 @@ pub fn ended_map(alloc: Global, instance: &Instance, state: &State) -> Result<Ma
     ensures lines { IfOk result (λ map. map.lines.items ≡ state.now.lines) }
     ensures names { IfOk result (λ map. map.names.items ≡ names_of instance.now state.now.lines) }
     ensures good { IfOk result (λ map. IsGood instance.now map.lines.items map.names.items) }
-    ensures best { IfOk result (λ map. IsAhead instance.now state.now.lines state.now.pointers → IsGroupBest instance.now map.lines.items) }
+    ensures best { IfOk result (λ map. IsAhead instance.now state.now.lines state.now.pointers
+        → IsGroupBest instance.now map.lines.items) }
 {
     let names = all_names(alloc, instance, state)?;
     let lines = state.lines(alloc)?;
@@ -101,7 +104,8 @@ pub fn finish(alloc: Global, instance: &Instance, state: State) -> Result<MapLin
     ensures lines { IfOk result (λ map. map.lines.items ≡ state.lines) }
     ensures names { IfOk result (λ map. map.names.items ≡ names_of instance.now state.lines) }
     ensures good { IfOk result (λ map. IsGood instance.now map.lines.items map.names.items) }
-    ensures best { IfOk result (λ map. IsAhead instance.now state.lines state.pointers → IsGroupBest instance.now map.lines.items) }
+    ensures best { IfOk result (λ map. IsAhead instance.now state.lines state.pointers
+        → IsGroupBest instance.now map.lines.items) }
 {
     ended_map(alloc, instance, &state)
 }

@@ -78,7 +78,8 @@ impl Pace {
 
     /// The group that offers next, if units are followed to it: the last one that gave up any.
     pub(crate) fn next_group(&mut self, freed: &[Eviction]) -> Option<GroupId>
-        ensures { (bound : ℕ) → All (λ e. e.offer.group.0 < bound) freed.now → IfSome result (λ g. g.0 < bound) }
+        ensures { (bound : ℕ) → All (λ e. e.offer.group.0 < bound) freed.now
+            → IfSome result (λ g. g.0 < bound) }
     {
         if self.listed > 0 {
             return None;

@@ -15,7 +15,8 @@ use map_model::{Instance, NodeId, Offer, Units};
 fn room_at(instance: &Instance, state: &State, node: NodeId, others: &[NodeId]) -> Units
     requires ready { IsReady instance.now state.now }
     requires node { node.0 < length instance.now.nodes }
-    ensures { list_any (λ x. x.0 == node.0) others.now ≡ false → load instance.now state.now.lines node.0 + result ≤ capacity_of instance.now node.0 }
+    ensures { list_any (λ x. x.0 == node.0) others.now ≡ false
+        → load instance.now state.now.lines node.0 + result ≤ capacity_of instance.now node.0 }
 {
     if others.iter().any(|other| *other == node) {
         Units::MAX
@@ -28,7 +29,8 @@ fn room_at(instance: &Instance, state: &State, node: NodeId, others: &[NodeId]) 
 pub fn room_under(instance: &Instance, state: &State, offer: Offer) -> Units
     requires ready { IsReady instance.now state.now }
     requires offer { IsOffer instance.now offer.group.0 offer.place }
-    ensures { result ≡ limit_of instance.now offer.group.0 offer.place - amount_at state.now.lines offer.group.0 offer.place }
+    ensures { result ≡ limit_of instance.now offer.group.0 offer.place - amount_at state.now.lines
+        offer.group.0 offer.place }
 {
     Units::from(instance.limit(offer.group, offer.place)) - state.units(offer)
 }

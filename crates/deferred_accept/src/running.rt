@@ -60,12 +60,16 @@ pub fn run<L>(
     requires { IsReady instance.now state.old }
     ensures run { OnOk result (HasRun instance.now state.old state.new) }
     ensures ended { OnOk result (IsEnded instance.now state.new.pointers state.new.free) }
-    ensures steps { OnOk result (steps.new ≤ steps.old + most_proposals instance.now state.old.pointers) }
+    ensures steps { OnOk result (steps.new ≤ steps.old
+        + most_proposals instance.now state.old.pointers) }
     ensures counted { OnOk result (HasProposed instance.now state.old state.new steps.old steps.new) }
     ensures later { steps.old ≤ steps.new }
-    ensures wanted { OnOk result (WantsBefore instance.now state.old → WantsBefore instance.now state.new) }
-    ensures ahead { OnOk result (IsAhead instance.now state.old.lines state.old.pointers → IsAhead instance.now state.new.lines state.new.pointers) }
-    ensures inside { OnOk result ((trees : ℕ → Bool) → HoldsWork instance.now trees state.old → StaysInside instance.now trees state.old state.new steps.old steps.new) }
+    ensures wanted { OnOk result (WantsBefore instance.now state.old
+        → WantsBefore instance.now state.new) }
+    ensures ahead { OnOk result (IsAhead instance.now state.old.lines state.old.pointers
+        → IsAhead instance.now state.new.lines state.new.pointers) }
+    ensures inside { OnOk result ((trees : ℕ → Bool) → HoldsWork instance.now trees state.old
+        → StaysInside instance.now trees state.old state.new steps.old steps.new) }
 {
     let mut freed = Freed::new(alloc);
     let mut work = WorkList::all(alloc, instance)?;

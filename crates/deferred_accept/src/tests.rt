@@ -171,7 +171,8 @@ fn maps_small_worlds(rt: HostRuntime) {
 fn wake_first(work: &mut WorkList, freed: &[Eviction]) -> Result<(), NoMemory>
     requires { All (λ e. e.offer.group.0 < length work.old) freed.now }
     ensures count { OnOk result (length work.new ≡ length work.old) }
-    ensures each { OnOk result ((h : ℕ) → h < length work.old → is_on work.new h ≡ (is_on work.old h || gave_any freed.now h)) }
+    ensures each { OnOk result ((h : ℕ) → h < length work.old → is_on work.new h
+        ≡ (is_on work.old h || gave_any freed.now h)) }
 {
     for eviction in freed {
         work.add_first(eviction.offer.group)?;

@@ -16,7 +16,8 @@ use no_memory::NoMemory;
 fn due_offer(instance: &Instance, state: &State, group: GroupId) -> Option<Offer>
     requires ready { IsReady instance.now state.now }
     requires group { group.0 < length instance.now.groups }
-    ensures due { MatchOption result (IsWaiting instance.now state.now group.0 → ⊥) (IsDueOffer instance.now state.now) }
+    ensures due { MatchOption result (IsWaiting instance.now state.now group.0
+        → ⊥) (IsDueOffer instance.now state.now) }
     ensures group { IfSome result (λ o. o.group ≡ group) }
 {
     let place = state.pointer(group);
@@ -32,7 +33,8 @@ fn due_offer(instance: &Instance, state: &State, group: GroupId) -> Option<Offer
 pub fn next_offer(instance: &Instance, state: &State, work: &mut WorkList) -> Option<Offer>
     requires ready { IsReady instance.now state.now }
     requires covered { CoversWork instance.now state.now work.old }
-    ensures due { MatchOption result (IsEnded instance.now state.now.pointers state.now.free) (IsDueOffer instance.now state.now) }
+    ensures due { MatchOption result (IsEnded instance.now state.now.pointers state.now.free)
+        (IsDueOffer instance.now state.now) }
     ensures covered { IfSome result (λ o. CoversRest instance.now state.now o.group.0 work.new) }
 {
     while let Some(group) = work.pop() {
@@ -54,7 +56,8 @@ pub fn offer_ahead(
     requires ready { IsReady instance.now state.now }
     requires covered { CoversWork instance.now state.now work.old }
     requires ahead { IfSome ahead (λ g. g.0 < length instance.now.groups) }
-    ensures due { MatchOption result (IsEnded instance.now state.now.pointers state.now.free) (IsDueOffer instance.now state.now) }
+    ensures due { MatchOption result (IsEnded instance.now state.now.pointers state.now.free)
+        (IsDueOffer instance.now state.now) }
     ensures covered { IfSome result (λ o. CoversRest instance.now state.now o.group.0 work.new) }
 {
     if let Some(group) = ahead {
@@ -76,7 +79,8 @@ pub fn offer_or_skip<L>(
 ) -> Result<(), NoMemory>
     requires ready { IsReady instance.now state.old }
     requires due { IsDueOffer instance.now state.old offer }
-    ensures stepped { OnOk result (HasStepped instance.now state.old state.new offer.group.0 freed.new steps.old steps.new) }
+    ensures stepped { OnOk result (HasStepped instance.now state.old state.new offer.group.0
+        freed.new steps.old steps.new) }
     ensures later { steps.old ≤ steps.new }
 {
     let units = state
@@ -107,7 +111,8 @@ pub fn add_again(work: &mut WorkList, group: GroupId, freed: &[Eviction]) -> Res
 pub fn wake(work: &mut WorkList, freed: &[Eviction]) -> Result<(), NoMemory>
     requires { All (λ e. e.offer.group.0 < length work.old) freed.now }
     ensures count { OnOk result (length work.new ≡ length work.old) }
-    ensures each { OnOk result ((h : ℕ) → h < length work.old → is_on work.new h ≡ (is_on work.old h || gave_any freed.now h)) }
+    ensures each { OnOk result ((h : ℕ) → h < length work.old → is_on work.new h
+        ≡ (is_on work.old h || gave_any freed.now h)) }
 {
     for eviction in freed {
         work.add(eviction.offer.group)?;

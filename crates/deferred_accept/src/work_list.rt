@@ -45,7 +45,8 @@ impl WorkList {
     /// All groups of an instance.
     pub fn all(alloc: Global, instance: &Instance) -> Result<WorkList, NoMemory>
         ensures count { IfOk result (λ work. length work ≡ length instance.now.groups) }
-        ensures all { IfOk result (λ work. (h : ℕ) → h < length instance.now.groups → is_on work h ≡ true) }
+        ensures all { IfOk result (λ work. (h : ℕ) → h < length instance.now.groups → is_on work h
+            ≡ true) }
     {
         let count = instance.groups();
         Ok(WorkList {
@@ -86,7 +87,8 @@ impl WorkList {
     pub fn pop(&mut self) -> Option<GroupId>
         ensures { MatchOption result
             ((h : ℕ) → h < length self.old → is_on self.old h ≡ false)
-            (λ g. (g.0 < length self.old) × (is_on self.old g.0 ≡ true) × (self.new ≡ slice_set self.old g.0 false)) }
+            (λ g. (g.0 < length self.old) × (is_on self.old g.0 ≡ true)
+            × (self.new ≡ slice_set self.old g.0 false)) }
     {
         let group = self.groups.pop_front()?;
         self.is_on[group.0 as usize] = false;

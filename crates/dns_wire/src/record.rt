@@ -55,7 +55,8 @@ fn read_record(octets: &[u8]) -> Option<(Record<'_>, &[u8])>
 
 /// The OPT record found so far, with one more record; None where that is a second one, or one whose name is not the root.
 fn with_record<'a>(found: Option<Opt<'a>>, next: Record<'a>) -> Option<Option<Opt<'a>>>
-    ensures { option_map (option_map extension) result ≡ with_record (option_map extension found.entry) (record_view next.entry) }
+    ensures { option_map (option_map extension) result
+        ≡ with_record (option_map extension found.entry) (record_view next.entry) }
 {
     if next.kind != OPT {
         return Some(found);

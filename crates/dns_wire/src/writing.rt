@@ -20,7 +20,8 @@ fn flag(set: bool, worth: u8) -> u8
 fn put_head(out: &mut ReplyBuffer, id: u16, flags: u8, rcode: u8, counts: &[u16])
     requires room { HasRoom (array_vec_len out.old) 12 }
     requires four { length counts.now ≡ 4 }
-    ensures { out.new.items ≡ out.old.items ++ (spelling.u16 id ++ flags ∷ rcode ∷ flat_map spelling.u16 counts.now) }
+    ensures { out.new.items ≡ out.old.items
+        ++ (spelling.u16 id ++ flags ∷ rcode ∷ flat_map spelling.u16 counts.now) }
 {
     let id = u16_octets(id);
     let questions = u16_octets(counts[0]);

@@ -14,12 +14,11 @@ use crate::places::{has_place, oldest_idle, place_for};
 use crate::room::Room;
 use crate::seat::{Seat, Stirring, enter_at, is_any_waiting, put_at, wake_at};
 use addr_text::{Listen, Peer};
-use handed_in::{Unfit, handed_in, take_tcp};
 use mio::event::Event;
 use mio::net::{TcpListener, TcpStream};
 use mio::{Events, Interest, Poll, Registry, Token};
 use past_log::{CallEvent, CallsPast};
-use reuse_port::send_at_once;
+use socket_calls::{Unfit, handed_in, send_at_once, take_tcp};
 use std::io::{self, ErrorKind};
 use std::net::{Net, SocketAddr};
 use std::os::fd::AsRawFd;
@@ -275,8 +274,8 @@ impl Ears {
         most_of_one: usize,
         turns: &mut u64,
     ) -> Taken
-        ensures taken { IsTakenIn come.peer.addr
-            most_of_one come.time result turns.old turns.new seats.old rooms.old seats.new rooms.new }
+        ensures taken { IsTakenIn come.peer.addr most_of_one come.time result
+            turns.old turns.new seats.old rooms.old seats.new rooms.new }
         ensures turns { (turns.old ≤ turns.new) × (turns.new ≤ raised turns.old 1) }
     {
         let Come { stream, peer, time } = come;

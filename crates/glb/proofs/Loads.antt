@@ -114,9 +114,10 @@ given_wider name limit bytes (Some x) None u one two h = absurd one
 given_wider name limit bytes (Some x) (Some y) None one two h = absurd two
 given_wider name limit bytes (Some x) (Some y) (Some z) (front, one) (made, two) h =
     let a = load_with name limit bytes in
-    let there : Contains made a = subst (λ (ls : List Load). Contains ls a) (made_between made y z two) h.0 in
-    (subst (λ (ls : List Load). Contains ls a) (sym (made_between (front ++ made) x z (made_then front made x y z one two))) (Contains-append_right front made a there),
-    subst (λ o. IfSome o (λ held. held name ≡ Some bytes)) one.holds h.1)
+    let there : Contains made a = subst (λ (ls : List Load). Contains ls a) (made_between made y z two) h.0 in (
+      subst (λ (ls : List Load). Contains ls a) (sym (made_between (front ++ made) x z (made_then front made x y z one two))) (Contains-append_right front made a there),
+      subst (λ o. IfSome o (λ held. held name ≡ Some bytes)) one.holds h.1,
+    )
 
 -- what a file says that was loaded first
 says_later : {T : Type 0} (kind : Kind T) (name : List ℕ) (t : T) (a b c : Option Shelved) → IsSaidBy kind name a b t → Grows b c → Says kind (files_between a c) name t
@@ -147,9 +148,14 @@ noted_then : {T : Type 0} (kind : Kind T) (name : List ℕ) (next : T → List L
 noted_then kind name next that s t u says two =
     tell_trans s t u (IsGiven name kind.limit says.0) (AreLoadsOf (next that)) (AreLoadsOf (loads_from kind name next)) says.1 two
     (λ x y z one two.
-    let a = load_with name kind.limit says.0 in
-    (a ∷ two.0, made_then (a ∷ []) two.0 x y z (first_made name kind.limit says.0 x y one) two.1, (suc two.2.0,
-    ap (λ ds. load_of kind name ∷ ds) (two.2.1 ∙ ap (take two.2.0) (sym (behind_said kind next that says.0 two.0 says.2))))))
+    let a = load_with name kind.limit says.0 in (
+      a ∷ two.0,
+      made_then (a ∷ []) two.0 x y z (first_made name kind.limit says.0 x y one) two.1,
+      (
+        suc two.2.0,
+        ap (λ ds. load_of kind name ∷ ds) (two.2.1 ∙ ap (take two.2.0) (sym (behind_said kind next that says.0 two.0 says.2))),
+      ),
+    ))
 
 -- and all of them
 loaded_then : {T : Type 0} (kind : Kind T) (name : List ℕ) (next : T → List Load → List DueLoad) (that : T) (s t u : Option Shelved)
@@ -157,9 +163,12 @@ loaded_then : {T : Type 0} (kind : Kind T) (name : List ℕ) (next : T → List 
 loaded_then kind name next that s t u says two =
     tell_trans s t u (IsGiven name kind.limit says.0) (AreLoaded (next that)) (AreLoaded (loads_from kind name next)) says.1 two
     (λ x y z one two.
-    let a = load_with name kind.limit says.0 in
-    (a ∷ two.0, made_then (a ∷ []) two.0 x y z (first_made name kind.limit says.0 x y one) two.1,
-    ap (λ ds. load_of kind name ∷ ds) (two.2 ∙ sym (behind_said kind next that says.0 two.0 says.2)), All-cons HasOctets a two.0 refl two.3))
+    let a = load_with name kind.limit says.0 in (
+      a ∷ two.0,
+      made_then (a ∷ []) two.0 x y z (first_made name kind.limit says.0 x y one) two.1,
+      ap (λ ds. load_of kind name ∷ ds) (two.2 ∙ sym (behind_said kind next that says.0 two.0 says.2)),
+      All-cons HasOctets a two.0 refl two.3,
+    ))
 
 -- one load was made, of the only file
 loaded_only : {T : Type 0} (kind : Kind T) (name bytes : List ℕ) (s t : Option Shelved) → BothTell s t (IsGiven name kind.limit bytes) → BothTell s t (AreLoaded (only kind name))

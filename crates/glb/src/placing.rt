@@ -50,7 +50,8 @@ fn report(alloc: Global, topology: &Topology) -> Result<Report, Stop>
 /// How many units stand at each place by a group-best map for the instance of the topology of a file.
 pub fn places_files<F: Shelf>(alloc: Global, files: &mut F, topology: &str) -> Result<Report, Stop>
     ensures { IsEnd (loads_of_places topology.now) (IsPlacesDue topology.now
-        (files_between (F.told files.old).past (F.told files.new).past)) (F.told files.old) (F.told files.new) result }
+        (files_between (F.told files.old).past (F.told files.new).past))
+        (F.told files.old) (F.told files.new) result }
 {
     let topology = load_topology(alloc, files, topology)?;
     report(alloc, &topology)

@@ -133,8 +133,10 @@ impl Instance {
     /// The instance of these rows, where they are one: some exactly where the limits hold, parents
     /// have lower numbers and are no pools, no path has nine nodes, and each list has distinct pools.
     pub fn try_from_rows(groups: Vec<ClientGroup>, nodes: Vec<Node>) -> Option<Instance>
-        ensures valid { IsSome result ↔ IsMarket (record { groups = groups.items; nodes = nodes.items }) }
-        ensures value { IfSome result (λ instance. instance ≡ record { groups = groups.items; nodes = nodes.items }) }
+        ensures valid { IsSome result ↔ IsMarket
+            (record { groups = groups.items; nodes = nodes.items }) }
+        ensures value { IfSome result (λ instance. instance
+            ≡ record { groups = groups.items; nodes = nodes.items }) }
     {
         if is_market(groups.as_slice(), nodes.as_slice()) {
             Some(Instance { groups, nodes })
@@ -266,7 +268,10 @@ impl Instance {
     pub fn set_demand(&mut self, group: GroupId, demand: u32)
         requires group { group.0 < length self.old.groups }
         requires range { 1 ≤ demand }
-        ensures changed { self.new ≡ record self.old { groups = slice_set self.old.groups group.0 (record (group_at self.old group.0) { demand = demand }) } }
+        ensures changed { self.new ≡ record self.old {
+          groups = slice_set self.old.groups group.0
+              (record (group_at self.old group.0) { demand = demand });
+        } }
         ensures shape { IsSameShape self.old self.new }
         ensures market { IsMarket self.new }
     {
@@ -278,7 +283,10 @@ impl Instance {
     pub fn set_capacity(&mut self, node: NodeId, capacity: Units)
         requires node { node.0 < length self.old.nodes }
         requires range { capacity ≤ MOST_CAPACITY }
-        ensures changed { self.new ≡ record self.old { nodes = slice_set self.old.nodes node.0 (record (node_at self.old node.0) { capacity = capacity }) } }
+        ensures changed { self.new ≡ record self.old {
+          nodes = slice_set self.old.nodes node.0
+              (record (node_at self.old node.0) { capacity = capacity });
+        } }
         ensures shape { IsSameShape self.old self.new }
         ensures market { IsMarket self.new }
     {

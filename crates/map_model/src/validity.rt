@@ -45,7 +45,8 @@ fn is_shallow(nodes: &[Node], node: NodeId) -> bool
 fn are_shallow(nodes: &[Node]) -> bool
     requires few { length nodes.now ≤ MOST_NODES }
     requires nodes { HasTreeNodes nodes.now }
-    ensures { IsTrue result ↔ ((n : ℕ) → n < length nodes.now → length (climb 9 (trees_of nodes.now) (Some (record { 0 = n }))) ≤ LEVELS) }
+    ensures { IsTrue result ↔ ((n : ℕ) → n < length nodes.now
+        → length (climb 9 (trees_of nodes.now) (Some (record { 0 = n }))) ≤ LEVELS) }
 {
     for i in 0..nodes.len() {
         if !is_shallow(nodes, NodeId(i as u32)) {
@@ -77,7 +78,9 @@ fn are_trees(nodes: &[Node]) -> bool
 
 /// Whether a choice's pool is there and a pool, and its limit in range.
 fn is_choice(nodes: &[Node], choice: Choice) -> bool
-    ensures { IsTrue result ↔ ((choice.pool.0 < length nodes.now) × IsTrue (node_in nodes.now choice.pool.0).is_pool × (1 ≤ choice.limit) × (choice.limit < 2 ^ 32)) }
+    ensures { IsTrue result ↔ ((choice.pool.0 < length nodes.now)
+        × IsTrue (node_in nodes.now choice.pool.0).is_pool × (1 ≤ choice.limit)
+        × (choice.limit < 2 ^ 32)) }
 {
     (choice.pool.0 as usize) < nodes.len()
         && nodes[choice.pool.0 as usize].is_pool

@@ -16,7 +16,7 @@ use Rattle.published_map.specs.Version.{IsVersion, Version}
 use Rattle.published_map.proofs.Within.{after_is_version, within}
 use Rattle.map_cell.specs.Ends.{PublisherState}
 use Rattle.map_cell.specs.Histories.{IsSealed}
-use Rattle.agree_laws.proofs.Applied.{applied_one}
+use Rattle.map_laws.proofs.Applied.{applied_one}
 use Rattle.mapper.specs.Control.{IsNext}
 use Rattle.mapper.specs.Currents.{IsCurrent, IsKeptFor, IsPrepared, IsWritten, Makes, version_of}
 use Rattle.mapper.specs.Mappers.{IsPublished}

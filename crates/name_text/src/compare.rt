@@ -14,7 +14,8 @@ pub fn same_name(name: &[u8], other: &[u8]) -> bool
 /// Whether a name is the apex or stands below it by whole labels, whatever the case of ASCII letters. Both are octets on the wire.
 pub fn under(name: &[u8], apex: &[u8]) -> bool
     ensures octets { result ≡ is_under name.now apex.now }
-    ensures labels { (labels : List (List ℕ)) → name.now ≡ wire labels → result ≡ list_any (λ rest. is_same (wire rest) apex.now) (tails labels) }
+    ensures labels { (labels : List (List ℕ)) → name.now ≡ wire labels → result
+        ≡ list_any (λ rest. is_same (wire rest) apex.now) (tails labels) }
 {
     let mut at = 0;
     while at < name.len() {

@@ -59,7 +59,8 @@ fn first_fault(text: &[u8]) -> Option<NameFault>
 
 /// Adds a label and its length, where there is room.
 fn push_label(octets: &mut ArrayVec<u8, LONGEST_NAME>, label: &[u8]) -> bool
-    ensures pushed { result ≡ true → octets.new.items ≡ octets.old.items ++ length label.now ∷ label.now }
+    ensures pushed { result ≡ true → octets.new.items ≡ octets.old.items ++ length label.now
+        ∷ label.now }
     ensures full { result ≡ false → LONGEST_NAME < length octets.old.items + 1 + length label.now }
 {
     if octets.len() + 1 + label.len() > LONGEST_NAME {

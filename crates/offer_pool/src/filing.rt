@@ -33,7 +33,8 @@ pub fn empty_queues(alloc: Global, count: u32) -> Result<Vec<Queue>, NoMemory>
 /// Takes out seats of offers that hold nothing, until the worst is one that holds something.
 fn clean(queue: &mut Queue, amounts: &[u32])
     requires { (s : Seat) → Contains queue.old s → place_at s.group.0 s.place < length amounts.now }
-    ensures kept { (s : Seat) → Contains queue.old s → 0 < amount_in amounts.now s.group.0 s.place → Contains queue.new s }
+    ensures kept { (s : Seat) → Contains queue.old s → 0 < amount_in amounts.now s.group.0 s.place
+        → Contains queue.new s }
     ensures from { (s : Seat) → Contains queue.new s → Contains queue.old s }
     ensures live { IsLive amounts.now queue.new }
 {
@@ -48,9 +49,12 @@ fn clean(queue: &mut Queue, amounts: &[u32])
 /// Cleans one queue.
 fn clean_at(queues: &mut [Queue], at: usize, amounts: &[u32])
     requires at { at < length queues.old }
-    requires seats { (s : Seat) → Contains (queue_at queues.old at) s → place_at s.group.0 s.place < length amounts.now }
-    ensures kept { (n : ℕ) (s : Seat) → Contains (queue_at queues.old n) s → 0 < amount_in amounts.now s.group.0 s.place → Contains (queue_at queues.new n) s }
-    ensures from { (n : ℕ) (s : Seat) → Contains (queue_at queues.new n) s → Contains (queue_at queues.old n) s }
+    requires seats { (s : Seat) → Contains (queue_at queues.old at) s → place_at s.group.0 s.place
+        < length amounts.now }
+    ensures kept { (n : ℕ) (s : Seat) → Contains (queue_at queues.old n) s → 0
+        < amount_in amounts.now s.group.0 s.place → Contains (queue_at queues.new n) s }
+    ensures from { (n : ℕ) (s : Seat) → Contains (queue_at queues.new n) s
+        → Contains (queue_at queues.old n) s }
     ensures live { IsLive amounts.now (queue_at queues.new at) }
     ensures others { (n : ℕ) → n ≢ at → queue_at queues.new n ≡ queue_at queues.old n }
 {
@@ -61,11 +65,16 @@ fn clean_at(queues: &mut [Queue], at: usize, amounts: &[u32])
 /// Cleans the queues of some nodes.
 pub fn clean_all(queues: &mut [Queue], nodes: &[NodeId], amounts: &[u32])
     requires nodes { (n : ℕ) → list_any (λ x. x.0 == n) nodes.now ≡ true → n < length queues.old }
-    requires seats { (n : ℕ) (s : Seat) → Contains (queue_at queues.old n) s → place_at s.group.0 s.place < length amounts.now }
-    ensures kept { (n : ℕ) (s : Seat) → Contains (queue_at queues.old n) s → 0 < amount_in amounts.now s.group.0 s.place → Contains (queue_at queues.new n) s }
-    ensures from { (n : ℕ) (s : Seat) → Contains (queue_at queues.new n) s → Contains (queue_at queues.old n) s }
-    ensures live { (n : ℕ) → list_any (λ x. x.0 == n) nodes.now ≡ true → IsLive amounts.now (queue_at queues.new n) }
-    ensures others { (n : ℕ) → list_any (λ x. x.0 == n) nodes.now ≡ false → queue_at queues.new n ≡ queue_at queues.old n }
+    requires seats { (n : ℕ) (s : Seat) → Contains (queue_at queues.old n) s
+        → place_at s.group.0 s.place < length amounts.now }
+    ensures kept { (n : ℕ) (s : Seat) → Contains (queue_at queues.old n) s → 0
+        < amount_in amounts.now s.group.0 s.place → Contains (queue_at queues.new n) s }
+    ensures from { (n : ℕ) (s : Seat) → Contains (queue_at queues.new n) s
+        → Contains (queue_at queues.old n) s }
+    ensures live { (n : ℕ) → list_any (λ x. x.0 == n) nodes.now ≡ true
+        → IsLive amounts.now (queue_at queues.new n) }
+    ensures others { (n : ℕ) → list_any (λ x. x.0 == n) nodes.now ≡ false → queue_at queues.new n
+        ≡ queue_at queues.old n }
 {
     for node in nodes {
         clean_at(queues, node.0 as usize, amounts);
@@ -75,8 +84,10 @@ pub fn clean_all(queues: &mut [Queue], nodes: &[NodeId], amounts: &[u32])
 /// Adds a seat to one queue.
 fn push_at(queues: &mut [Queue], at: usize, seat: Seat) -> Result<(), NoMemory>
     requires { at < length queues.old }
-    ensures kept { (n : ℕ) (s : Seat) → Contains (queue_at queues.old n) s → Contains (queue_at queues.new n) s }
-    ensures from { (n : ℕ) (s : Seat) → Contains (queue_at queues.new n) s → Contains (queue_at queues.old n) s ⊎ (s ≡ seat) }
+    ensures kept { (n : ℕ) (s : Seat) → Contains (queue_at queues.old n) s
+        → Contains (queue_at queues.new n) s }
+    ensures from { (n : ℕ) (s : Seat) → Contains (queue_at queues.new n) s
+        → Contains (queue_at queues.old n) s ⊎ (s ≡ seat) }
     ensures filed { OnOk result (Contains (queue_at queues.new at) seat) }
     ensures first { OnOk result (KeepsFirst seat (queue_at queues.old at) (queue_at queues.new at)) }
     ensures others { (n : ℕ) → n ≢ at → queue_at queues.new n ≡ queue_at queues.old n }
@@ -89,11 +100,16 @@ fn push_at(queues: &mut [Queue], at: usize, seat: Seat) -> Result<(), NoMemory>
 /// Adds a seat to the queues of some nodes. Where memory is wanted, some of them may have it.
 pub fn push_all(queues: &mut [Queue], nodes: &[NodeId], seat: Seat) -> Result<(), NoMemory>
     requires { (n : ℕ) → list_any (λ x. x.0 == n) nodes.now ≡ true → n < length queues.old }
-    ensures kept { (n : ℕ) (s : Seat) → Contains (queue_at queues.old n) s → Contains (queue_at queues.new n) s }
-    ensures from { (n : ℕ) (s : Seat) → Contains (queue_at queues.new n) s → Contains (queue_at queues.old n) s ⊎ (s ≡ seat) }
-    ensures filed { OnOk result ((n : ℕ) → list_any (λ x. x.0 == n) nodes.now ≡ true → Contains (queue_at queues.new n) seat) }
-    ensures first { OnOk result ((n : ℕ) → KeepsFirst seat (queue_at queues.old n) (queue_at queues.new n)) }
-    ensures others { (n : ℕ) → list_any (λ x. x.0 == n) nodes.now ≡ false → queue_at queues.new n ≡ queue_at queues.old n }
+    ensures kept { (n : ℕ) (s : Seat) → Contains (queue_at queues.old n) s
+        → Contains (queue_at queues.new n) s }
+    ensures from { (n : ℕ) (s : Seat) → Contains (queue_at queues.new n) s
+        → Contains (queue_at queues.old n) s ⊎ (s ≡ seat) }
+    ensures filed { OnOk result ((n : ℕ) → list_any (λ x. x.0 == n) nodes.now ≡ true
+        → Contains (queue_at queues.new n) seat) }
+    ensures first { OnOk result ((n : ℕ)
+        → KeepsFirst seat (queue_at queues.old n) (queue_at queues.new n)) }
+    ensures others { (n : ℕ) → list_any (λ x. x.0 == n) nodes.now ≡ false → queue_at queues.new n
+        ≡ queue_at queues.old n }
 {
     for node in nodes {
         push_at(queues, node.0 as usize, seat)?;

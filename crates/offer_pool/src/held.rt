@@ -42,7 +42,8 @@ impl Held {
     /// `NoMemory`.
     pub fn build(alloc: Global, instance: &Instance, map: &MapLines) -> Result<Held, NoMemory>
         requires { AreLines instance.now map.now.lines.items }
-        ensures held { IfOk result (λ held. held ≡ record { market = instance.now; lines = map.now.lines.items }) }
+        ensures held { IfOk result (λ held. held
+            ≡ record { market = instance.now; lines = map.now.lines.items }) }
         ensures market { IfOk result (λ held. IsMarket held.market) }
     {
         let lists = Lists::build(alloc, instance)?;
@@ -70,7 +71,8 @@ impl Held {
         requires offer { IsOffer self.old.market offer.group.0 offer.place }
         requires room { amount_at self.old.lines offer.group.0 offer.place + units < 2 ^ 32 }
         ensures market { self.new.market ≡ self.old.market }
-        ensures puts { OnOk result (Puts self.old.lines self.new.lines offer.group.0 offer.place units) }
+        ensures puts { OnOk result (Puts self.old.lines self.new.lines offer.group.0 offer.place
+            units) }
         ensures form { AreLines self.new.market self.new.lines }
         ensures err { OnErr result (self.new ≡ self.old) }
     {
@@ -120,7 +122,8 @@ impl Held {
     /// The held offer of the greatest key under a node, with all its units; None exactly where nothing is held there. It costs no scan and takes no memory.
     pub fn worst_under(&self, node: NodeId) -> Option<(Offer, Units)>
         requires { node.0 < length self.now.market.nodes }
-        ensures worst { MatchOption result (load self.now.market self.now.lines node.0 ≡ 0) (λ w. IsWorst self.now.market self.now.lines node.0 w.0.group.0 w.0.place w.1) }
+        ensures worst { MatchOption result (load self.now.market self.now.lines node.0
+            ≡ 0) (λ w. IsWorst self.now.market self.now.lines node.0 w.0.group.0 w.0.place w.1) }
         ensures form { AreLines self.now.market self.now.lines }
     {
         match self.queues[node.0 as usize].worst() {
@@ -138,7 +141,8 @@ impl Held {
     /// The key of the worst held offer under a node; None exactly where nothing is held there. It looks at the queue of the node alone.
     pub fn worst_key(&self, node: NodeId) -> Option<Key>
         requires { node.0 < length self.now.market.nodes }
-        ensures worst { MatchOption result (load self.now.market self.now.lines node.0 ≡ 0) (λ key. IsWorstKey self.now.market self.now.lines node.0 key) }
+        ensures worst { MatchOption result (load self.now.market self.now.lines node.0
+            ≡ 0) (λ key. IsWorstKey self.now.market self.now.lines node.0 key) }
         ensures form { AreLines self.now.market self.now.lines }
     {
         match self.queues[node.0 as usize].worst() {

@@ -33,8 +33,10 @@ fn seat_of(lists: &Lists, offer: Offer) -> Seat
 fn nodes_above(lists: &Lists, offer: Offer) -> ArrayVec<NodeId, LEVELS>
     requires market { IsMarket lists.now }
     requires offer { IsOffer lists.now offer.group.0 offer.place }
-    ensures among { (n : ℕ) → list_any (λ x. x.0 == n) result.items ≡ counts_at lists.now n offer.group.0 offer.place }
-    ensures there { (n : ℕ) → list_any (λ x. x.0 == n) result.items ≡ true → n < length lists.now.nodes }
+    ensures among { (n : ℕ) → list_any (λ x. x.0 == n) result.items
+        ≡ counts_at lists.now n offer.group.0 offer.place }
+    ensures there { (n : ℕ) → list_any (λ x. x.0 == n) result.items ≡ true → n
+        < length lists.now.nodes }
 {
     lists.path(lists.pool_at(offer))
 }
@@ -52,7 +54,8 @@ fn seat_units(
     requires none { amount_in amounts.old offer.group.0 offer.place ≡ 0 }
     requires some { 0 < units }
     ensures held { IsHeld lists.now amounts.new queues.new }
-    ensures ok { OnOk result (amounts.new ≡ slice_set amounts.old (place_at offer.group.0 offer.place) units) }
+    ensures ok { OnOk result (amounts.new
+        ≡ slice_set amounts.old (place_at offer.group.0 offer.place) units) }
     ensures err { OnErr result (amounts.new ≡ amounts.old) }
 {
     let nodes = nodes_above(lists, offer);
@@ -76,7 +79,9 @@ pub fn put_units(
     requires offer { IsOffer lists.now offer.group.0 offer.place }
     requires room { amount_in amounts.old offer.group.0 offer.place + units < 2 ^ 32 }
     ensures held { IsHeld lists.now amounts.new queues.new }
-    ensures ok { OnOk result (amounts.new ≡ slice_set amounts.old (place_at offer.group.0 offer.place) (amount_in amounts.old offer.group.0 offer.place + units)) }
+    ensures ok { OnOk result (amounts.new
+        ≡ slice_set amounts.old (place_at offer.group.0 offer.place)
+        (amount_in amounts.old offer.group.0 offer.place + units)) }
     ensures err { OnErr result (amounts.new ≡ amounts.old) }
 {
     let at = place_at(offer.group, offer.place);
@@ -123,7 +128,8 @@ pub fn take_units(
     requires offer { IsOffer lists.now offer.group.0 offer.place }
     requires enough { units ≤ amount_in amounts.old offer.group.0 offer.place }
     ensures held { IsHeld lists.now amounts.new queues.new }
-    ensures taken { amounts.new ≡ slice_set amounts.old (place_at offer.group.0 offer.place) (amount_in amounts.old offer.group.0 offer.place - units) }
+    ensures taken { amounts.new ≡ slice_set amounts.old (place_at offer.group.0 offer.place)
+        (amount_in amounts.old offer.group.0 offer.place - units) }
 {
     let at = place_at(offer.group, offer.place);
     amounts[at] -= units as u32;

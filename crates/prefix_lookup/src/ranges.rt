@@ -210,7 +210,9 @@ fn range_in<S: Starts, T: Tally>(
     requires some { 0 < length (S.starts starts.now) }
     requires first { start_at (S.starts starts.now) 0 ≡ 0 }
     requires beside { length groups.now ≡ length (S.starts starts.now) }
-    ensures range { (family : Family) (table : List (Prefix × GroupId)) → AreRanges family table (S.starts starts.now) groups.now → number < 2 ^ bits_in family → IsRangeOf family table number result }
+    ensures range { (family : Family) (table : List (Prefix × GroupId))
+        → AreRanges family table (S.starts starts.now) groups.now → number < 2 ^ bits_in family
+        → IsRangeOf family table number result }
     ensures few { 2 ^ (T.told tally.new - T.told tally.old) ≤ 2 * length (S.starts starts.now) }
     ensures risen { T.told tally.old ≤ T.told tally.new }
 {
@@ -225,7 +227,9 @@ impl RangesV4 {
         requires some { 0 < length self.now.starts.items }
         requires first { start_at self.now.starts.items 0 ≡ 0 }
         requires beside { length self.now.groups.items ≡ length self.now.starts.items }
-        ensures range { (table : List (Prefix × GroupId)) → AreRanges family.V4 table self.now.starts.items self.now.groups.items → IsRangeOf family.V4 table number result }
+        ensures range { (table : List (Prefix × GroupId))
+            → AreRanges family.V4 table self.now.starts.items self.now.groups.items
+            → IsRangeOf family.V4 table number result }
         ensures fits { number < 2 ^ 32 }
         ensures few { 2 ^ (T.told tally.new - T.told tally.old) ≤ 2 * length self.now.starts.items }
         ensures risen { T.told tally.old ≤ T.told tally.new }
@@ -246,7 +250,9 @@ impl RangesV6 {
         requires some { 0 < length self.now.starts.items }
         requires first { start_at self.now.starts.items 0 ≡ 0 }
         requires beside { length self.now.groups.items ≡ length self.now.starts.items }
-        ensures range { (table : List (Prefix × GroupId)) → AreRanges family.V6 table self.now.starts.items self.now.groups.items → IsRangeOf family.V6 table number result }
+        ensures range { (table : List (Prefix × GroupId))
+            → AreRanges family.V6 table self.now.starts.items self.now.groups.items
+            → IsRangeOf family.V6 table number result }
         ensures fits { number < 2 ^ 128 }
         ensures few { 2 ^ (T.told tally.new - T.told tally.old) ≤ 2 * length self.now.starts.items }
         ensures risen { T.told tally.old ≤ T.told tally.new }

@@ -38,7 +38,8 @@ fn bits_to_part_from(family: Family, number: u128, other: Option<u128>) -> u8
 pub fn scope_in(family: Family, number: u128, range: Range) -> u8
     requires number { number < 2 ^ bits_in family }
     requires inside { IsIn family number range }
-    ensures { (table : List (Prefix × GroupId)) → IsRangeOf family table number range → IsScope table (address_in family number) result }
+    ensures { (table : List (Prefix × GroupId)) → IsRangeOf family table number range
+        → IsScope table (address_in family number) result }
 {
     let before = bits_to_part_from(family, number, range.start.checked_sub(1));
     let after = bits_to_part_from(family, number, range.end);

@@ -48,8 +48,13 @@ fn is_last(ranges: &Ranges, block: Block) -> bool
 
 /// Begins a range at a number, unless the last one has the same longest prefix and goes on.
 fn begin(ranges: &mut Ranges, start: u128, block: Block) -> Result<(), NoMemory>
-    ensures begun { OnOk result ((family : Family) (table : List (Prefix × GroupId)) (stop : ℕ) → CoversTo start family table ranges.old.starts.items ranges.old.groups.items ranges.old.last → AllLongest family table block start stop → start < stop → CoversTo stop family table ranges.new.starts.items ranges.new.groups.items ranges.new.last) }
-    ensures few { OnOk result (length ranges.new.starts.items ≤ length ranges.old.starts.items + 1) }
+    ensures begun { OnOk result ((family : Family) (table : List (Prefix × GroupId)) (stop : ℕ)
+        → CoversTo start family table ranges.old.starts.items ranges.old.groups.items
+        ranges.old.last → AllLongest family table block start stop → start < stop
+        → CoversTo stop family table ranges.new.starts.items ranges.new.groups.items
+        ranges.new.last) }
+    ensures few { OnOk result (length ranges.new.starts.items ≤ length ranges.old.starts.items
+        + 1) }
     ensures next { ranges.new.next ≡ ranges.old.next }
 {
     if !is_last(ranges, block) {
@@ -62,9 +67,12 @@ fn begin(ranges: &mut Ranges, start: u128, block: Block) -> Result<(), NoMemory>
 
 /// The numbers from the next one on, up to and with another, have this block's prefix as their longest.
 fn cover(ranges: &mut Ranges, block: Block, last: u128) -> Result<(), NoMemory>
-    ensures covers { OnOk result ((family : Family) (table : List (Prefix × GroupId)) → Covers family table ranges.old → AllLongest family table block (stop_of ranges.old) (last + 1) → Covers family table ranges.new) }
+    ensures covers { OnOk result ((family : Family) (table : List (Prefix × GroupId))
+        → Covers family table ranges.old → AllLongest family table block (stop_of ranges.old) (last
+        + 1) → Covers family table ranges.new) }
     ensures stop { OnOk result (stop_of ranges.new ≡ max (stop_of ranges.old) (last + 1)) }
-    ensures few { OnOk result (length ranges.new.starts.items ≤ length ranges.old.starts.items + 1) }
+    ensures few { OnOk result (length ranges.new.starts.items ≤ length ranges.old.starts.items
+        + 1) }
 {
     let Some(next) = ranges.next else {
         return Ok(());
@@ -102,9 +110,11 @@ fn innermost(opened: &[Block]) -> Option<Block>
 /// Takes away the innermost of the open blocks, if it has ended.
 fn pop_ended(family: Family, opened: &mut Vec<Block>, limit: Option<u128>) -> Option<Block>
     requires { All (IsBlock family) opened.old.items }
-    ensures some { IfSome result (λ b. (opened.old.items ≡ opened.new.items ++ b ∷ []) × (end_of family b ≤ limit_of limit) × IsBlock family b) }
+    ensures some { IfSome result (λ b. (opened.old.items ≡ opened.new.items ++ b ∷ [])
+        × (end_of family b ≤ limit_of limit) × IsBlock family b) }
     ensures none { result ≡ None → opened.new.items ≡ opened.old.items }
-    ensures last { result ≡ None → (0 < length opened.old.items → limit_of limit < end_of family (block_at opened.old.items (length opened.old.items - 1))) }
+    ensures last { result ≡ None → (0 < length opened.old.items → limit_of limit
+        < end_of family (block_at opened.old.items (length opened.old.items - 1))) }
     ensures each { All (IsBlock family) opened.new.items }
 {
     let block = innermost(opened)?;
@@ -123,9 +133,15 @@ fn close(
     limit: Option<u128>,
 ) -> Result<(), NoMemory>
     requires { All (IsBlock family) opened.old.items }
-    ensures swept { OnOk result ((table : List (Prefix × GroupId)) (blocks : List Block) (i : ℕ) → IsTable table → AreBlocks family table blocks → i ≤ length blocks → Swept family table blocks i ranges.old opened.old.items → AllAhead blocks i (limit_of limit) → Swept family table blocks i ranges.new opened.new.items × AllGoOn family (limit_of limit) opened.new.items) }
+    ensures swept { OnOk result ((table : List (Prefix × GroupId)) (blocks : List Block) (i : ℕ)
+        → IsTable table → AreBlocks family table blocks → i ≤ length blocks
+        → Swept family table blocks i ranges.old opened.old.items
+        → AllAhead blocks i (limit_of limit)
+        → Swept family table blocks i ranges.new opened.new.items
+        × AllGoOn family (limit_of limit) opened.new.items) }
     ensures each { All (IsBlock family) opened.new.items }
-    ensures few { OnOk result (length ranges.new.starts.items + length opened.new.items ≤ length ranges.old.starts.items + length opened.old.items) }
+    ensures few { OnOk result (length ranges.new.starts.items + length opened.new.items
+        ≤ length ranges.old.starts.items + length opened.old.items) }
 {
     while let Some(block) = pop_ended(family, opened, limit) {
         cover(ranges, block, block.last(family))?;
@@ -135,8 +151,13 @@ fn close(
 
 /// Gives the numbers before this one, in which nothing begins, their range.
 fn reach(ranges: &mut Ranges, opened: &[Block], first: u128) -> Result<(), NoMemory>
-    ensures swept { OnOk result ((family : Family) (table : List (Prefix × GroupId)) (blocks : List Block) (i : ℕ) → IsTable table → AreBlocks family table blocks → Swept family table blocks i ranges.old opened.now → i < length blocks → (block_at blocks i).first ≡ first → AllGoOn family first opened.now → Swept family table blocks i ranges.new opened.now × (stop_of ranges.new ≡ first)) }
-    ensures few { OnOk result (length ranges.new.starts.items ≤ length ranges.old.starts.items + 1) }
+    ensures swept { OnOk result ((family : Family) (table : List (Prefix × GroupId))
+        (blocks : List Block) (i : ℕ) → IsTable table → AreBlocks family table blocks
+        → Swept family table blocks i ranges.old opened.now → i < length blocks
+        → (block_at blocks i).first ≡ first → AllGoOn family first opened.now
+        → Swept family table blocks i ranges.new opened.now × (stop_of ranges.new ≡ first)) }
+    ensures few { OnOk result (length ranges.new.starts.items ≤ length ranges.old.starts.items
+        + 1) }
 {
     let Some(block) = innermost(opened) else {
         return Ok(());
@@ -150,7 +171,8 @@ fn reach(ranges: &mut Ranges, opened: &[Block], first: u128) -> Result<(), NoMem
 /// The ranges of blocks that are in order.
 fn sweep(alloc: Global, family: Family, blocks: &[Block]) -> Result<Ranges, NoMemory>
     requires { All (IsBlock family) blocks.now }
-    ensures { IfOk result (λ r. (table : List (Prefix × GroupId)) → IsTable table → AreBlocks family table blocks.now → AreRanges family table r.starts.items r.groups.items) }
+    ensures { IfOk result (λ r. (table : List (Prefix × GroupId)) → IsTable table
+        → AreBlocks family table blocks.now → AreRanges family table r.starts.items r.groups.items) }
 {
     let mut ranges = Ranges {
         starts: Vec::new(alloc),

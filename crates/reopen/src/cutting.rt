@@ -15,10 +15,15 @@ fn trim_place(instance: &Instance, state: &mut State, offer: Offer)
     requires offer { IsOffer instance.now offer.group.0 offer.place }
     ensures less { IsLess instance.now state.old state.new }
     ensures sums { KeepsSums state.old state.new }
-    ensures done { (placed state.new.lines offer.group.0 ≤ demand_of instance.now offer.group.0) ⊎ (amount_at state.new.lines offer.group.0 offer.place ≡ 0) }
-    ensures others { (test : ℕ → ℕ → Bool) → test offer.group.0 offer.place ≡ false → units_of test state.new.lines ≡ units_of test state.old.lines }
-    ensures over { amount_at state.new.lines offer.group.0 offer.place < amount_at state.old.lines offer.group.0 offer.place → demand_of instance.now offer.group.0 < placed state.old.lines offer.group.0 }
-    ensures enough { demand_of instance.now offer.group.0 ≤ placed state.old.lines offer.group.0 → demand_of instance.now offer.group.0 ≤ placed state.new.lines offer.group.0 }
+    ensures done { (placed state.new.lines offer.group.0 ≤ demand_of instance.now offer.group.0)
+        ⊎ (amount_at state.new.lines offer.group.0 offer.place ≡ 0) }
+    ensures others { (test : ℕ → ℕ → Bool) → test offer.group.0 offer.place ≡ false
+        → units_of test state.new.lines ≡ units_of test state.old.lines }
+    ensures over { amount_at state.new.lines offer.group.0 offer.place
+        < amount_at state.old.lines offer.group.0 offer.place → demand_of instance.now offer.group.0
+        < placed state.old.lines offer.group.0 }
+    ensures enough { demand_of instance.now offer.group.0 ≤ placed state.old.lines offer.group.0
+        → demand_of instance.now offer.group.0 ≤ placed state.new.lines offer.group.0 }
 {
     let demand = u64::from(instance.demand(offer.group));
     let placed = state.placed(offer.group);
@@ -36,7 +41,8 @@ fn trim_places(instance: &Instance, state: &mut State, group: GroupId)
     ensures sums { KeepsSums state.old state.new }
     ensures fits { placed state.new.lines group.0 ≤ demand_of instance.now group.0 }
     ensures trimmed { IsGroupTrimmed instance.now group.0 state.old.lines state.new.lines }
-    ensures elsewhere { (test : ℕ → ℕ → Bool) → ((k : ℕ) → test group.0 k ≡ false) → units_of test state.new.lines ≡ units_of test state.old.lines }
+    ensures elsewhere { (test : ℕ → ℕ → Bool) → ((k : ℕ) → test group.0 k ≡ false)
+        → units_of test state.new.lines ≡ units_of test state.old.lines }
 {
     let demand = u64::from(instance.demand(group));
     let placed = state.placed(group);
@@ -55,10 +61,13 @@ fn trim_group(instance: &Instance, state: &mut State, group: GroupId)
     requires can { CanCut instance.now state.old }
     requires group { group.0 < length instance.now.groups }
     ensures less { IsLess instance.now state.old state.new }
-    ensures total { placed state.new.lines group.0 + slice_index state.new.free group.0 ≡ demand_of instance.now group.0 }
-    ensures others { (h : ℕ) → h < length state.old.free → h ≢ group.0 → placed state.new.lines h + slice_index state.new.free h ≡ placed state.old.lines h + slice_index state.old.free h }
+    ensures total { placed state.new.lines group.0 + slice_index state.new.free group.0
+        ≡ demand_of instance.now group.0 }
+    ensures others { (h : ℕ) → h < length state.old.free → h ≢ group.0 → placed state.new.lines h
+        + slice_index state.new.free h ≡ placed state.old.lines h + slice_index state.old.free h }
     ensures trimmed { IsGroupTrimmed instance.now group.0 state.old.lines state.new.lines }
-    ensures elsewhere { (test : ℕ → ℕ → Bool) → ((k : ℕ) → test group.0 k ≡ false) → units_of test state.new.lines ≡ units_of test state.old.lines }
+    ensures elsewhere { (test : ℕ → ℕ → Bool) → ((k : ℕ) → test group.0 k ≡ false)
+        → units_of test state.new.lines ≡ units_of test state.old.lines }
 {
     trim_places(instance, state, group);
     state.set_total(group, instance.demand(group));
@@ -68,7 +77,8 @@ fn trim_group(instance: &Instance, state: &mut State, group: GroupId)
 fn trim(instance: &Instance, state: &mut State)
     requires { CanCut instance.now state.old }
     ensures less { IsLess instance.now state.old state.new }
-    ensures totals { (g : ℕ) → g < length instance.now.groups → placed state.new.lines g + slice_index state.new.free g ≡ demand_of instance.now g }
+    ensures totals { (g : ℕ) → g < length instance.now.groups → placed state.new.lines g
+        + slice_index state.new.free g ≡ demand_of instance.now g }
     ensures trimmed { IsTrimmed instance.now state.old.lines state.new.lines }
 {
     for g in 0..instance.groups() {
@@ -83,7 +93,8 @@ fn cut_node(instance: &Instance, state: &mut State, node: NodeId)
     ensures less { IsLess instance.now state.old state.new }
     ensures sums { KeepsSums state.old state.new }
     ensures fits { load instance.now state.new.lines node.0 ≤ capacity_of instance.now node.0 }
-    ensures turned { (all : List MapLine) → AreTurnedFrom instance.now node.0 all state.old.lines → AreTurnedFrom instance.now node.0 all state.new.lines }
+    ensures turned { (all : List MapLine) → AreTurnedFrom instance.now node.0 all state.old.lines
+        → AreTurnedFrom instance.now node.0 all state.new.lines }
 {
     let capacity = instance.capacity(node);
     while state.load(node) > capacity {
@@ -100,7 +111,8 @@ fn cut(instance: &Instance, state: &mut State)
     requires { CanCut instance.now state.old }
     ensures less { IsLess instance.now state.old state.new }
     ensures sums { KeepsSums state.old state.new }
-    ensures fits { (n : ℕ) → n < length instance.now.nodes → load instance.now state.new.lines n ≤ capacity_of instance.now n }
+    ensures fits { (n : ℕ) → n < length instance.now.nodes → load instance.now state.new.lines n
+        ≤ capacity_of instance.now n }
     ensures turned { AreTurnedAway instance.now state.old.lines state.new.lines }
 {
     let nodes = instance.nodes();

@@ -26,8 +26,10 @@ pub fn back_place(instance: &Instance, state: &State, marks: &[bool], group: Gro
     requires size { length marks.now ≡ length instance.now.nodes }
     requires group { group.0 < length instance.now.groups }
     requires pointers { length state.now.pointers ≡ length instance.now.groups }
-    requires in_list { slice_index state.now.pointers group.0 ≤ length (choices_of instance.now group.0) }
-    ensures { IsBackAt instance.now marks.now group.0 (slice_index state.now.pointers group.0) result }
+    requires in_list { slice_index state.now.pointers group.0
+        ≤ length (choices_of instance.now group.0) }
+    ensures { IsBackAt instance.now marks.now group.0 (slice_index state.now.pointers group.0)
+        result }
 {
     let pointer = state.pointer(group);
     for place in 0..pointer {
@@ -58,7 +60,8 @@ fn roll_back_group(instance: &Instance, state: &mut State, marks: &[bool], group
     requires size { length marks.now ≡ length instance.now.nodes }
     requires group { group.0 < length instance.now.groups }
     requires pointers { length state.old.pointers ≡ length instance.now.groups }
-    requires in_list { slice_index state.old.pointers group.0 ≤ length (choices_of instance.now group.0) }
+    requires in_list { slice_index state.old.pointers group.0
+        ≤ length (choices_of instance.now group.0) }
     ensures { IsGroupBack instance.now marks.now group.0 state.old state.new }
 {
     let place = back_place(instance, state, marks, group);

@@ -15,7 +15,8 @@ pub fn are_digits(word: &[u8]) -> bool
 /// The number of decimal digits, where it is below 2^64. Zeros may lead.
 pub fn decimal_value(digits: &[u8]) -> Option<u64>
     requires { list_all is_ascii_digit digits.now ≡ true }
-    ensures { MatchOption result (2 ^ 64 ≤ digits_value 10 digits.now) (λ v. v ≡ digits_value 10 digits.now) }
+    ensures { MatchOption result (2 ^ 64 ≤ digits_value 10 digits.now) (λ v. v
+        ≡ digits_value 10 digits.now) }
 {
     let mut value: u64 = 0;
     for digit in digits {

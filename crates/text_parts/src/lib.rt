@@ -38,7 +38,8 @@ pub fn after<T>(items: &[T], i: usize) -> &[T]
 
 /// What stands before and behind the first of an octet, where there is one.
 pub fn cut(text: &[u8], octet: u8) -> Option<(&[u8], &[u8])>
-    ensures parts { MatchOption result (parts octet text.now ≡ text.now ∷ []) (λ r. parts octet text.now ≡ r.0.now ∷ parts octet r.1.now) }
+    ensures parts { MatchOption result (parts octet text.now ≡ text.now
+        ∷ []) (λ r. parts octet text.now ≡ r.0.now ∷ parts octet r.1.now) }
     ensures shorter { IfSome result (λ r. length r.0.now + length r.1.now < length text.now) }
 {
     match position_of(text, octet) {
