@@ -12,25 +12,37 @@ use map_model::{Instance, NodeId, Offer, Units};
 use no_memory::NoMemory;
 use offer_pool::Held;
 
+/// How far a put has come: the offer that was put, the node that is next, and how many of the units
+/// may still be given up.
+#[derive(Clone, Copy)]
+struct Climb {
+    put: Offer,
+    node: NodeId,
+    left: Units,
+}
+
 /// Brings a node within its capacity, the worst offer first. Answers what is left to be given up of
 /// the units that were put.
 fn relieve(
     instance: &Instance,
     held: &mut Held,
     tree: &mut Tree,
-    put: Offer,
-    node: NodeId,
-    left: Units,
+    climb: Climb,
     freed: &mut Freed,
 ) -> Result<Units, NoMemory>
     ghost origin: { Origin }
-    requires { IsRelieving instance.now origin put.group.0 put.place node.0 left held.old tree.old freed.old }
-    ensures relieving { IfOk result (λ rest. IsRelieving instance.now origin put.group.0 put.place node.0 rest held.new tree.new freed.new) }
-    ensures fits { OnOk result (load instance.now held.new.lines node.0 ≤ capacity_of instance.now node.0) }
+    requires { IsRelieving instance.now origin climb.put.group.0 climb.put.place
+        climb.node.0 climb.left held.old tree.old freed.old }
+    ensures relieving { IfOk result (λ rest.
+        IsRelieving instance.now origin climb.put.group.0 climb.put.place
+        climb.node.0 rest held.new tree.new freed.new) }
+    ensures fits { OnOk result
+        (load instance.now held.new.lines climb.node.0 ≤ capacity_of instance.now climb.node.0) }
     ensures market { OnOk result (held.new.market ≡ held.old.market) }
 {
+    let node = climb.node;
     let capacity = instance.capacity(node);
-    let mut left = left;
+    let mut left = climb.left;
     while tree.load(node) > capacity {
         let over = tree.load(node) - capacity;
         let Some((offer, most)) = held.worst_under(node) else {
@@ -62,7 +74,8 @@ pub fn relieve_path(
     let mut at = Some(instance.pool_at(put));
     let mut left = units;
     while let Some(node) = at {
-        left = relieve(instance, held, tree, put, node, left, freed)?;
+        let climb = Climb { put, node, left };
+        left = relieve(instance, held, tree, climb, freed)?;
         at = instance.parent(node);
     }
     Ok(())

@@ -112,36 +112,46 @@ fn follow(
     Ok(())
 }
 
+/// What is followed: a state of the old instance's map, and which offers there are in each tree.
+#[derive(Clone, Copy)]
+struct Followed<'i> {
+    old: &'i Instance,
+    state: &'i State,
+    asked: &'i Asked,
+}
+
 /// Follows each offer in the tree of a root, until each tree is marked.
 fn look_at(
-    old: &Instance,
-    state: &State,
-    asked: &Asked,
+    followed: &Followed<'_>,
     marks: &mut Marks,
     done: &mut [bool],
     ahead: &mut u32,
     root: NodeId,
 ) -> Result<(), NoMemory>
-    requires ready { IsReady old.now state.now }
-    requires asked { AreAllListed old.now asked.now }
-    requires size { length marks.old.on ≡ length old.now.nodes }
-    requires groups { length done.old ≡ length old.now.groups }
-    requires root { root.0 < length old.now.nodes }
-    requires done { AreDone old.now state.now.lines marks.old.on done.old }
-    requires ahead { ahead.old ≤ length old.now.nodes }
-    requires marked { AreMarkedTo old.now marks.old.on ahead.old }
+    requires ready { IsReady followed.now.old.now followed.now.state.now }
+    requires asked { AreAllListed followed.now.old.now followed.now.asked.now }
+    requires size { length marks.old.on ≡ length followed.now.old.now.nodes }
+    requires groups { length done.old ≡ length followed.now.old.now.groups }
+    requires root { root.0 < length followed.now.old.now.nodes }
+    requires done { AreDone followed.now.old.now followed.now.state.now.lines marks.old.on done.old }
+    requires ahead { ahead.old ≤ length followed.now.old.now.nodes }
+    requires marked { AreMarkedTo followed.now.old.now marks.old.on ahead.old }
     ensures marking { OnOk result (IsMarking marks.old marks.new) }
-    ensures done { OnOk result (AreDone old.now state.now.lines marks.new.on done.new) }
-    ensures ahead { OnOk result (ahead.new ≤ length old.now.nodes) }
-    ensures marked { OnOk result (AreMarkedTo old.now marks.new.on ahead.new) }
-    ensures settled { OnOk result (IsSettled old.now state.now marks.new.on root.0) }
-    ensures within { OnOk result ((trees : ℕ → Bool) → IsClosedForAll old.now state.now trees → trees root.0 ≡ true → IsWithin marks.old.on trees → IsWithin marks.new.on trees) }
+    ensures done { OnOk result
+        (AreDone followed.now.old.now followed.now.state.now.lines marks.new.on done.new) }
+    ensures ahead { OnOk result (ahead.new ≤ length followed.now.old.now.nodes) }
+    ensures marked { OnOk result (AreMarkedTo followed.now.old.now marks.new.on ahead.new) }
+    ensures settled { OnOk result
+        (IsSettled followed.now.old.now followed.now.state.now marks.new.on root.0) }
+    ensures within { OnOk result ((trees : ℕ → Bool)
+        → IsClosedForAll followed.now.old.now followed.now.state.now trees
+        → trees root.0 ≡ true → IsWithin marks.old.on trees → IsWithin marks.new.on trees) }
 {
-    for offer in asked.in_tree(root) {
-        if *ahead == old.nodes() {
+    for offer in followed.asked.in_tree(root) {
+        if *ahead == followed.old.nodes() {
             return Ok(());
         }
-        follow(old, state, marks, done, ahead, *offer)?;
+        follow(followed.old, followed.state, marks, done, ahead, *offer)?;
     }
     Ok(())
 }
@@ -185,7 +195,8 @@ fn spread(
 {
     let mut ahead = 0;
     while let Some(root) = next_tree(old, state, marks, &mut ahead) {
-        look_at(old, state, asked, marks, done, &mut ahead, root)?;
+        let followed = Followed { old, state, asked };
+        look_at(&followed, marks, done, &mut ahead, root)?;
     }
     Ok(())
 }

@@ -21,7 +21,7 @@ use deferred_accept::{ended_map, run};
 use demand_feed::{Batch, apply};
 use evict::State;
 use map_model::{Instance, MapLines, Steps};
-use map_repair::resume;
+use map_repair::{Change, resume};
 use map_text::{Cuts, Written, write_after, write_first};
 use move_up::Asked;
 use no_memory::NoMemory;
@@ -133,15 +133,13 @@ fn repaired<L>(
 {
     let before = steps.count();
     let asked = take_asked(alloc, &old.instance, &kept.state, &mut kept.asked)?;
-    let effort = resume(
-        alloc,
-        &old.instance,
-        &old.map,
+    let change = Change {
+        old: &old.instance,
+        map: &old.map,
         new,
-        &asked,
-        &mut kept.state,
-        steps,
-    )?;
+        asked: &asked,
+    };
+    let effort = resume(alloc, &change, &mut kept.state, steps)?;
     kept.asked = Some(asked);
     // the state of a try in vain is gone
     let proposals = (steps.count() - before).saturating_sub(effort.thrown);

@@ -15,7 +15,7 @@ ghost use Rattle.serve_core.specs.Minded.{AreMinded};
 ghost use Rattle.serve_core.specs.Takings.{IsCommitFault, IsTaking};
 
 use crate::event::{Event, StepFault};
-use crate::lane::LaneRow;
+use crate::lane::{Datagram, LaneRow};
 use crate::octets::Octets;
 use addr_text::Peer;
 use answer_core::Way;
@@ -199,7 +199,8 @@ impl World {
         }
         let version = version_at(self.versions.as_slice(), serial);
         let row = &mut self.lanes[lane as usize];
-        row.take(version, lane, octets, from, serial, way)?;
+        let datagram = Datagram { octets, from };
+        row.take(version, lane, datagram, serial, way)?;
         Ok(())
     }
 

@@ -14,9 +14,9 @@ use crate::names::{Entries, text_at};
 use crate::pairs::pairs;
 use crate::prefixes::PrefixAt;
 use crate::schema::Key;
-use crate::soa::SoaContent;
+use crate::soa::{SoaContent, SoaNumbers};
 use crate::texts::{v4_address, v6_address, zone_name};
-use crate::topology::{Hosts, Names, Topology, Zone};
+use crate::topology::{Hosts, NameTables, Names, Topology, Zone};
 use crate::visited::value_of;
 use crate::zone::{wire_names, zone_items, zone_text};
 use addr_text::{Addr, Prefix};
@@ -170,21 +170,23 @@ fn zone_of(alloc: Global, zone: Option<&Table>) -> Result<Zone, AllocError>
     let services = wire_names(alloc, Key::Services, zone_items(zone, Key::Services))?;
     let mname = zone_name_at(zone, Key::Mname);
     let rname = zone_name_at(zone, Key::Rname);
-    let serial = zone_number(zone, Key::Serial);
-    let refresh = zone_number(zone, Key::Refresh);
-    let retry = zone_number(zone, Key::Retry);
-    let expire = zone_number(zone, Key::Expire);
-    let minimum = zone_number(zone, Key::Minimum);
-    let soa = SoaContent::new(&mname, &rname, serial, refresh, retry, expire, minimum);
+    let numbers = SoaNumbers {
+        serial: zone_number(zone, Key::Serial),
+        refresh: zone_number(zone, Key::Refresh),
+        retry: zone_number(zone, Key::Retry),
+        expire: zone_number(zone, Key::Expire),
+        minimum: zone_number(zone, Key::Minimum),
+    };
+    let soa = SoaContent::new(&mname, &rname, numbers);
     Ok(Zone {
         apex: zone_name_at(zone, Key::Apex),
         mname,
         rname,
-        serial,
-        refresh,
-        retry,
-        expire,
-        minimum,
+        serial: numbers.serial,
+        refresh: numbers.refresh,
+        retry: numbers.retry,
+        expire: numbers.expire,
+        minimum: numbers.minimum,
         ttl: zone_number(zone, Key::Ttl),
         ns,
         services,
@@ -209,13 +211,9 @@ pub fn topology(
     let classes = classes(alloc, index)?;
     let owned = owned(alloc, prefixes)?;
     let hosts = all_hosts(alloc, index.nodes())?;
-    Ok(Topology::from_parts(
-        instance,
-        zone,
-        node_names,
-        group_names,
-        classes,
-        owned,
-        hosts,
-    ))
+    let names = NameTables {
+        nodes: node_names,
+        groups: group_names,
+    };
+    Ok(Topology::from_parts(instance, zone, names, classes, owned, hosts))
 }

@@ -26,29 +26,37 @@ impl Model for SoaContent {
     ghost view = { λ c. c.octets.items };
 }
 
+/// The numbers of an SOA record, in the order in which they stand there.
+#[derive(Clone, Copy)]
+pub(crate) struct SoaNumbers {
+    /// The version of the zone.
+    pub(crate) serial: u32,
+    /// Seconds until a secondary looks for a new version.
+    pub(crate) refresh: u32,
+    /// Seconds until it tries again where that failed.
+    pub(crate) retry: u32,
+    /// Seconds after which it gives the zone up.
+    pub(crate) expire: u32,
+    /// Seconds for which the answer that something is not there may be kept.
+    pub(crate) minimum: u32,
+}
+
 impl SoaContent {
-    /// The content for these names, and serial, refresh, retry, expire and minimum.
-    pub(crate) fn new(
-        mname: &Name,
-        rname: &Name,
-        serial: u32,
-        refresh: u32,
-        retry: u32,
-        expire: u32,
-        minimum: u32,
-    ) -> SoaContent
+    /// The content for these names and numbers.
+    pub(crate) fn new(mname: &Name, rname: &Name, numbers: SoaNumbers) -> SoaContent
         requires mname { length mname.now ≤ 64 }
         requires rname { length rname.now ≤ 64 }
-        ensures { result ≡ soa_content mname.now rname.now serial refresh retry expire minimum }
+        ensures { result ≡ soa_content mname.now rname.now
+            numbers.serial numbers.refresh numbers.retry numbers.expire numbers.minimum }
     {
         let mut octets = ArrayVec::new();
         let _ = octets.try_extend_from_slice(mname.wire());
         let _ = octets.try_extend_from_slice(rname.wire());
-        put_number(&mut octets, serial);
-        put_number(&mut octets, refresh);
-        put_number(&mut octets, retry);
-        put_number(&mut octets, expire);
-        put_number(&mut octets, minimum);
+        put_number(&mut octets, numbers.serial);
+        put_number(&mut octets, numbers.refresh);
+        put_number(&mut octets, numbers.retry);
+        put_number(&mut octets, numbers.expire);
+        put_number(&mut octets, numbers.minimum);
         SoaContent { octets }
     }
 

@@ -141,25 +141,50 @@ impl Model for Topology {
     ghost invariant = { λ a. IsPlan (plan a) };
 }
 
+/// The names of nodes, and of groups and the classes behind them, each by its number.
+#[derive(Drop)]
+pub(crate) struct NameTables {
+    /// The nodes' names.
+    pub(crate) nodes: IndexSet<Vec<u8>>,
+    /// The groups' names, and behind them the classes'.
+    pub(crate) groups: IndexSet<Vec<u8>>,
+}
+
 impl Topology {
     /// A topology of these parts, which fit together.
     pub(crate) fn from_parts(
         instance: Instance,
         zone: Zone,
-        node_names: IndexSet<Vec<u8>>,
-        group_names: IndexSet<Vec<u8>>,
+        names: NameTables,
         classes: Classes,
         prefixes: Vec<(Prefix, GroupId)>,
         addresses: Vec<Hosts>,
     ) -> Topology
-        requires { IsPlan (record { market = instance; zone = zone; node_names = map (λ v. v.items) node_names.keys; group_names = map (λ v. v.items) group_names.keys; classes = classes; prefixes = prefixes.items; addresses = addresses.items }) }
-        ensures { result ≡ record { market = instance; zone = zone; node_names = map (λ v. v.items) node_names.keys; group_names = map (λ v. v.items) group_names.keys; classes = classes; prefixes = prefixes.items; addresses = addresses.items } }
+        requires { IsPlan (record {
+          market = instance;
+          zone = zone;
+          node_names = map (λ v. v.items) names.nodes.keys;
+          group_names = map (λ v. v.items) names.groups.keys;
+          classes = classes;
+          prefixes = prefixes.items;
+          addresses = addresses.items;
+        }) }
+        ensures { result ≡ record {
+          market = instance;
+          zone = zone;
+          node_names = map (λ v. v.items) names.nodes.keys;
+          group_names = map (λ v. v.items) names.groups.keys;
+          classes = classes;
+          prefixes = prefixes.items;
+          addresses = addresses.items;
+        } }
     {
+        let NameTables { nodes, groups } = names;
         Topology {
             instance,
             zone,
-            node_names,
-            group_names,
+            node_names: nodes,
+            group_names: groups,
             classes,
             prefixes,
             addresses,

@@ -4,9 +4,9 @@ use Rattle.evict.proofs.relief.relieve.Given as goal
 
 abbrev pub invariant-loop-node : goal.invariant-loop-node
 invariant-loop-node g l = record {
-  relieving : IsRelieving l.instance g.origin l.fn.put.group.0 l.fn.put.place l.node.0 l.left l.held l.tree l.freed;
+  relieving : IsRelieving l.instance g.origin l.fn.climb.put.group.0 l.fn.climb.put.place l.fn.climb.node.0 l.left l.held l.tree l.freed;
   market : l.held.market ≡ l.fn.held.market;
 }
 
 abbrev pub decreases-loop-node : goal.decreases-loop-node
-decreases-loop-node g l = slice_index l.tree.units l.node.0
+decreases-loop-node g l = slice_index l.tree.units l.fn.climb.node.0
