@@ -88,7 +88,7 @@ pub record IsServedLog {T : Type 0} (a : Answers Version) (first : Version) (res
   pub port_faults : raised before.port_faults (failures log) ≤ after.port_faults
   pub port_stays : failures log ≡ 0 → after.port_faults ≡ before.port_faults
   pub refusal : 0 < sum_by (λ t. refused_of t.came) log → Rose before.door_faults after.door_faults
-  -- why a datagram went without a reply: it has none, or its look was refused
+  -- why no reply to a datagram was tried: it has none, or its look was refused
   pub fates : All (λ t. IsFated a t.came) log
   pub learned : length (first ∷ rest) ≤ after.greatest + 1
   pub rising : (before.greatest ≤ after.greatest) × (before.door_faults ≤ after.door_faults)
@@ -98,6 +98,7 @@ pub record IsServedLog {T : Type 0} (a : Answers Version) (first : Version) (res
 -- Lane w after a drive: the turns that it made; what port, gate and notes tell of them, the notes from the first None on; and why it ended.
 pub record IsDone (turns : ℕ) (first : Version) (rest : List Version) (w : ℕ) (before after : LaneTold) (ended : Ended) : Type 0 where
   pub log : List Turn
+  -- why its turns ended, ahead of the closing look
   pub served : Ended
   pub shown : ℕ
   pub served_log : IsServedLog replies first rest w log served ended shown before after

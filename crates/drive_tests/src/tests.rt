@@ -263,19 +263,24 @@ fn drive_example<P: Port + Send, G: Gate + Send, D: Door + Send, M: Pace, R: Thr
     }
 }
 
-/// How a drive ended of which so many lanes, from the first on, ended so, and whose feed was read to its end.
-fn ended_by(ended: Ended, count: usize) -> DriveEnd {
+/// The ends of so many lanes, from the first on, which ended so.
+fn lanes_by(ended: Ended, count: usize) -> [Option<Ended>; 16] {
     let mut lanes = [None; 16];
     for (place, lane) in lanes.iter_mut().enumerate() {
         if place < count {
             *lane = Some(ended);
         }
     }
-    DriveEnd {
-        feed: FeedEnd::Ended,
-        lanes,
-        stream: None,
-    }
+    lanes
+}
+
+/// Whether a drive ended so, whose feed was read to its end: so many of its lanes, from the first on, and the others had no
+/// worker; and its row of notes told of so many maps.
+fn ends_so(end: DriveEnd, ended: Ended, count: usize, maps: u64) -> bool {
+    end.feed == FeedEnd::Ended
+        && end.lanes == lanes_by(ended, count)
+        && end.stream.is_none()
+        && end.told.count() == maps
 }
 
 /// How one lane ended, and how many datagrams it took and answered.
@@ -331,8 +336,10 @@ const CLOSINGS: [Closing; 4] = [
 /// Whether each lane ends so.
 fn all_close<R: Threads + Wait + Sync>(rt: &R, alloc: Global, rows: &[Closing]) -> bool {
     for &(queries, refused, ended, taken, tried) in rows {
-        let served = one_lane(rt, alloc, queries, refused);
-        if served != Some((ended_by(ended, 1), taken, tried)) {
+        let Some((end, took, answered)) = one_lane(rt, alloc, queries, refused) else {
+            return false;
+        };
+        if !ends_so(end, ended, 1, 2) || took != taken || answered != tried {
             return false;
         }
     }
@@ -413,7 +420,10 @@ fn take_theirs<R: Threads + Wait + Sync>(rt: &R, alloc: Global, count: u8) -> bo
     requires { count ≤ 16 }
 {
     let taken = count as usize;
-    some_lanes(rt, alloc, count) == Some((ended_by(Ended::PortEnd, taken), taken))
+    match some_lanes(rt, alloc, count) {
+        None => false,
+        Some((end, took)) => ends_so(end, Ended::PortEnd, taken, 3) && took == taken,
+    }
 }
 
 /// Those with viewers take their queries, and the others none.

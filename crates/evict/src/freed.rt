@@ -54,7 +54,8 @@ impl Freed {
     }
 
     pub(crate) fn push(&mut self, offer: Offer, units: Units) -> Result<(), NoMemory>
-        ensures { OnOk result (self.new ≡ self.old ++ record { offer = offer; units = units } ∷ []) }
+        ensures { OnOk result (self.new ≡ self.old ++ record { offer = offer; units = units }
+            ∷ []) }
     {
         self.evictions.push(Eviction { offer, units })?;
         Ok(())

@@ -21,9 +21,11 @@ pub fn load_lines(instance: &Instance, tree: &mut Tree, free: &mut [Units], line
     requires trees { AreTreesOf instance.now tree.old.trees }
     requires empty { tree.old.units ≡ replicate (length instance.now.nodes) 0 }
     requires count { length free.old ≡ length instance.now.groups }
-    requires all { (g : ℕ) → g < length instance.now.groups → slice_index free.old g ≡ demand_of instance.now g }
+    requires all { (g : ℕ) → g < length instance.now.groups → slice_index free.old g
+        ≡ demand_of instance.now g }
     ensures agrees { AgreesWith instance.now lines.now tree.new }
-    ensures free { (g : ℕ) → g < length instance.now.groups → placed lines.now g + slice_index free.new g ≡ demand_of instance.now g }
+    ensures free { (g : ℕ) → g < length instance.now.groups → placed lines.now g
+        + slice_index free.new g ≡ demand_of instance.now g }
 {
     for line in lines {
         let units = u64::from(line.amount);
@@ -58,9 +60,11 @@ fn wanted_count(instance: &Instance, held: &Held, group: GroupId) -> u8
 /// How many places of each group's list are wanted.
 pub fn wanted_counts(alloc: Global, instance: &Instance, held: &Held) -> Result<Vec<u8>, NoMemory>
     requires same { held.now.market ≡ instance.now }
-    requires fits { (g : ℕ) → g < length instance.now.groups → placed held.now.lines g ≤ demand_of instance.now g }
+    requires fits { (g : ℕ) → g < length instance.now.groups → placed held.now.lines g
+        ≤ demand_of instance.now g }
     ensures count { IfOk result (λ counts. length counts.items ≡ length instance.now.groups) }
-    ensures each { IfOk result (λ counts. (g : ℕ) → g < length instance.now.groups → IsPastWanted instance.now held.now.lines g (slice_index counts.items g)) }
+    ensures each { IfOk result (λ counts. (g : ℕ) → g < length instance.now.groups
+        → IsPastWanted instance.now held.now.lines g (slice_index counts.items g)) }
 {
     let mut counts = Vec::new(alloc);
     for g in 0..instance.groups() {

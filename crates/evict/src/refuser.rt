@@ -38,7 +38,8 @@ pub fn refusing_node(instance: &Instance, held: &Held, tree: &Tree, offer: Offer
     requires offer { IsOffer instance.now offer.group.0 offer.place }
     requires shape { IsSameShape held.now.market instance.now }
     requires agrees { AgreesWith instance.now held.now.lines tree.now }
-    ensures { option_map (λ n. n.0) result ≡ refusing_node instance.now held.now.lines offer.group.0 offer.place }
+    ensures { option_map (λ n. n.0) result
+        ≡ refusing_node instance.now held.now.lines offer.group.0 offer.place }
 {
     let key = instance.key(offer);
     let mut at = Some(key.pool);

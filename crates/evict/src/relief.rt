@@ -67,8 +67,10 @@ pub fn relieve_path(
     freed: &mut Freed,
 ) -> Result<(), NoMemory>
     ghost origin: { Origin }
-    requires { IsRelieving instance.now origin put.group.0 put.place (pool_of instance.now put.group.0 put.place) units held.old tree.old freed.old }
-    ensures relieved { OnOk result (IsRelieved instance.now origin put.group.0 put.place held.new tree.new freed.new) }
+    requires { IsRelieving instance.now origin put.group.0 put.place
+        (pool_of instance.now put.group.0 put.place) units held.old tree.old freed.old }
+    ensures relieved { OnOk result (IsRelieved instance.now origin put.group.0 put.place held.new
+        tree.new freed.new) }
     ensures market { OnOk result (held.new.market ≡ held.old.market) }
 {
     let mut at = Some(instance.pool_at(put));
@@ -105,8 +107,10 @@ pub fn place(
     freed: &mut Freed,
 ) -> Result<(), NoMemory>
     ghost origin: { Origin }
-    requires { IsPlacing instance.now origin offer.group.0 offer.place units held.old tree.old freed.old }
-    ensures relieved { OnOk result (IsRelieved instance.now origin offer.group.0 offer.place held.new tree.new freed.new) }
+    requires { IsPlacing instance.now origin offer.group.0 offer.place units held.old tree.old
+        freed.old }
+    ensures relieved { OnOk result (IsRelieved instance.now origin offer.group.0 offer.place
+        held.new tree.new freed.new) }
     ensures market { OnOk result (held.new.market ≡ held.old.market) }
 {
     if units > 0 && is_refused(instance, held, tree, offer) {

@@ -27,7 +27,9 @@ fn nearest_full(instance: &Instance, tree: &Tree, offer: Offer) -> Option<NodeId
     requires market { IsMarket instance.now }
     requires offer { IsOffer instance.now offer.group.0 offer.place }
     requires trees { AreTreesOf instance.now tree.now.trees }
-    ensures { option_map (λ n. n.0) result ≡ find (λ n. slice_index tree.now.units n == capacity_of instance.now n) (path instance.now (pool_of instance.now offer.group.0 offer.place)) }
+    ensures { option_map (λ n. n.0) result
+        ≡ find (λ n. slice_index tree.now.units n == capacity_of instance.now n)
+        (path instance.now (pool_of instance.now offer.group.0 offer.place)) }
 {
     let mut at = Some(instance.pool_at(offer));
     for _step in 0..LEVELS {
@@ -47,7 +49,8 @@ pub fn rival_of(instance: &Instance, held: &Held, tree: &Tree, offer: Offer) -> 
     requires offer { IsOffer instance.now offer.group.0 offer.place }
     requires shape { IsSameShape held.now.market instance.now }
     requires agrees { AgreesWith instance.now held.now.lines tree.now }
-    ensures { MatchOption result (HasNoRival instance.now held.now.lines offer.group.0 offer.place) (λ r. IsRival instance.now held.now.lines offer.group.0 offer.place r) }
+    ensures { MatchOption result (HasNoRival instance.now held.now.lines offer.group.0 offer.place)
+        (λ r. IsRival instance.now held.now.lines offer.group.0 offer.place r) }
 {
     let node = nearest_full(instance, tree, offer)?;
     let (worst, units) = held.worst_under(node)?;

@@ -41,7 +41,14 @@ impl Model for State {
 
     ghost Value = { Standing };
 
-    ghost view = { λ s. record { market = s.held.market; lines = s.held.lines; pointers = s.pointers.items; free = s.free.items; is_whole = s.whole } };
+    ghost view = { λ s. record {
+      market = s.held.market;
+      lines = s.held.lines;
+      pointers =
+          s.pointers.items;
+      free = s.free.items;
+      is_whole = s.whole;
+    } };
 
     ghost invariant = { λ s. IsTrue s.whole → IsSound s.held s.tree s.free.items s.totals.items };
 }
@@ -49,7 +56,8 @@ impl Model for State {
 /// The demand of each group.
 fn demands(alloc: Global, instance: &Instance) -> Result<Vec<Units>, NoMemory>
     ensures count { IfOk result (λ demands. length demands.items ≡ length instance.now.groups) }
-    ensures each { IfOk result (λ demands. (g : ℕ) → g < length instance.now.groups → slice_index demands.items g ≡ demand_of instance.now g) }
+    ensures each { IfOk result (λ demands. (g : ℕ) → g < length instance.now.groups
+        → slice_index demands.items g ≡ demand_of instance.now g) }
 {
     let mut demands = Vec::new(alloc);
     for g in 0..instance.groups() {
@@ -170,7 +178,9 @@ impl State {
     /// held there.
     pub fn worst_under(&self, node: NodeId) -> Option<(Offer, Units)>
         requires { node.0 < length self.now.market.nodes }
-        ensures { MatchOption result (load self.now.market self.now.lines node.0 ≡ 0) (λ worst. IsWorst self.now.market self.now.lines node.0 worst.0.group.0 worst.0.place worst.1) }
+        ensures { MatchOption result (load self.now.market self.now.lines node.0
+            ≡ 0) (λ worst. IsWorst self.now.market self.now.lines node.0 worst.0.group.0
+            worst.0.place worst.1) }
     {
         self.held.worst_under(node)
     }
@@ -201,7 +211,8 @@ impl State {
     /// under that one.
     pub fn rival(&self, instance: &Instance, offer: Offer) -> Option<Rival>
         requires { CanAsk instance.now self.now offer.group.0 offer.place }
-        ensures { MatchOption result (HasNoRival instance.now self.now.lines offer.group.0 offer.place) (λ r. IsRival instance.now self.now.lines offer.group.0 offer.place r) }
+        ensures { MatchOption result (HasNoRival instance.now self.now.lines offer.group.0
+            offer.place) (λ r. IsRival instance.now self.now.lines offer.group.0 offer.place r) }
     {
         rival_of(instance, &self.held, &self.tree, offer)
     }
@@ -221,8 +232,10 @@ impl State {
         steps: &mut Steps<L>,
     ) -> Result<(), NoMemory>
         requires { CanPut instance.now self.old offer.group.0 offer.place units }
-        ensures put { OnOk result (IsPut instance.now self.old self.new offer.group.0 offer.place units freed.new) }
-        ensures steps { OnOk result (steps.new ≡ (if steps.old == 2 ^ 64 - 1 then steps.old else steps.old + 1)) }
+        ensures put { OnOk result (IsPut instance.now self.old self.new offer.group.0 offer.place
+            units freed.new) }
+        ensures steps { OnOk result (steps.new
+            ≡ (if steps.old == 2 ^ 64 - 1 then steps.old else steps.old + 1)) }
         ensures market { OnOk result (self.new.market ≡ self.old.market) }
         ensures later { steps.old ≤ steps.new }
     {
@@ -306,7 +319,8 @@ impl State {
         requires whole { IsTrue self.old.is_whole }
         requires group { group.0 < length self.old.free }
         requires held { placed self.old.lines group.0 ≤ total }
-        ensures { self.new ≡ record self.old { free = slice_set self.old.free group.0 (total - placed self.old.lines group.0) } }
+        ensures { self.new ≡ record self.old
+            { free = slice_set self.old.free group.0 (total - placed self.old.lines group.0) } }
     {
         let g = group.0 as usize;
         self.free[g] = u64::from(total) - (self.totals[g] - self.free[g]);
@@ -316,8 +330,10 @@ impl State {
     /// Moves a group's pointer. Nothing may be held past it.
     pub fn set_pointer(&mut self, group: GroupId, place: u8)
         requires group { group.0 < length self.old.pointers }
-        requires nothing_past { (j : ℕ) → IsOffer self.old.market group.0 j → place < j → amount_at self.old.lines group.0 j ≡ 0 }
-        ensures { self.new ≡ record self.old { pointers = slice_set self.old.pointers group.0 place } }
+        requires nothing_past { (j : ℕ) → IsOffer self.old.market group.0 j → place < j
+            → amount_at self.old.lines group.0 j ≡ 0 }
+        ensures { self.new ≡ record self.old
+            { pointers = slice_set self.old.pointers group.0 place } }
     {
         self.pointers[group.0 as usize] = place;
     }

@@ -32,7 +32,7 @@ use Rattle.glb.specs.Files.{Says, topology_file}
 use Rattle.glb.specs.declared.status.Status.TheVariants as status
 use Rattle.glb.specs.Serve.{IsFirstOf, IsPlaced, IsServed, IsStarted}
 
--- A lane that ended well: in each turn its gate was asked and its port after that, whose count of faults rose by at least as many as its calls failed, and stands where none did; each datagram with a reply was answered from a version of the history that is no older than what the lane had used or was told of; its worker was given the notes of the first versions, in their order, each once, in the turns of which the lane tells; what its gate was shown last is no less than what was known by then; and it went on until its port's end or its gate's stop.
+-- A lane that ended well: in each turn its gate was asked and its port after that, whose count of faults rose by at least as many as its calls failed, and stands where none did; of each datagram with a reply one was tried, from a version of the history that is no older than what the lane had used or was told of, whether or not it went, since no look was refused (by `well` and `ending`, by which also fewer than eight calls failed); its worker was given the notes of the first versions, in their order, each once, in the turns of which the lane tells; what its gate was shown last is no less than what was known by then; and it went on until its port's end or its gate's stop.
 pub record IsWellDone (turns : ℕ) (history : List Version) (w : ℕ) (before after : LaneTold) : Type 0 where
   pub log : List Turn
   pub ended : Ended

@@ -44,7 +44,8 @@ pub fn resume<L>(
     steps: &mut Steps<L>,
 ) -> Result<Effort, NoMemory>
     requires of_map { IsStateOf change.now.old.now state.old }
-    requires good { IsGood change.now.old.now change.now.map.now.lines.items change.now.map.now.names.items }
+    requires good { IsGood change.now.old.now change.now.map.now.lines.items
+        change.now.map.now.names.items }
     requires holds { state.old.lines ≡ change.now.map.now.lines.items }
     requires asked { AreAllListed change.now.old.now change.now.asked.now }
     requires shape { IsSameShape change.now.old.now change.now.new.now }
@@ -100,10 +101,14 @@ pub fn repair<L>(
     requires shape { IsSameShape old.now new.now }
     ensures good { IfOk result (λ made. IsGood new.now made.lines.items made.names.items) }
     ensures kept { IfOk result (λ made. IsKept old.now map.now.lines.items new.now made.lines.items) }
-    ensures local { IfOk result (λ made. IsLocal old.now map.now.lines.items new.now made.lines.items) }
-    ensures determined { IfOk result (λ made. IsRepairedOf old.now map.now.lines.items new.now made.lines.items) }
-    ensures counted { IfOk result (λ made. HasRepaired old.now map.now.lines.items new.now made.lines.items steps.old steps.new) }
-    ensures steps { OnOk result (IsWithinTwiceSpread old.now map.now.lines.items new.now steps.old steps.new) }
+    ensures local { IfOk result (λ made. IsLocal old.now map.now.lines.items new.now
+        made.lines.items) }
+    ensures determined { IfOk result (λ made. IsRepairedOf old.now map.now.lines.items new.now
+        made.lines.items) }
+    ensures counted { IfOk result (λ made. HasRepaired old.now map.now.lines.items new.now
+        made.lines.items steps.old steps.new) }
+    ensures steps { OnOk result (IsWithinTwiceSpread old.now map.now.lines.items new.now steps.old
+        steps.new) }
     ensures later { steps.old ≤ steps.new }
 {
     let mut state = State::of_map(alloc, old, map)?;

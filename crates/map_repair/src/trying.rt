@@ -108,7 +108,8 @@ pub fn tried_or_anew<L>(
     steps: &mut Steps<L>,
 ) -> Result<Option<u64>, NoMemory>
     requires of_map { IsStateOf change.now.old.now state.old }
-    requires good { IsGood change.now.old.now change.now.map.now.lines.items change.now.map.now.names.items }
+    requires good { IsGood change.now.old.now change.now.map.now.lines.items
+        change.now.map.now.names.items }
     requires holds { state.old.lines ≡ change.now.map.now.lines.items }
     requires shape { IsSameShape change.now.old.now change.now.new.now }
     requires marks { AreReached change.now.old.now state.old.lines change.now.new.now marks.now }
@@ -139,7 +140,8 @@ pub fn go_back<L>(
     requires of_map { IsStateOf old.now state.old }
     requires shape { IsSameShape old.now new.now }
     requires marks { AreReached old.now state.old.lines new.now marks.now }
-    ensures resumed { OnOk result (IsResumed old.now state.old.lines new.now state.new steps.old steps.new) }
+    ensures resumed { OnOk result (IsResumed old.now state.old.lines new.now state.new steps.old
+        steps.new) }
     ensures later { steps.old ≤ steps.new }
 {
     // tells the prover what the type keeps

@@ -56,7 +56,13 @@ impl Model for LaneRow {
 
     ghost Value = { LaneState };
 
-    ghost view = { λ l. record { seen = l.seen; count = l.count; taken = map entry_of_row l.taken.items; tries = map try_of_row l.tries.items } };
+    ghost view = { λ l. record {
+      seen = l.seen;
+      count = l.count;
+      taken = map entry_of_row
+          l.taken.items;
+      tries = map try_of_row l.tries.items;
+    } };
 }
 
 impl LaneRow {

@@ -34,7 +34,8 @@ impl Model for CheckRoom {
 
     ghost view = { λ r. record { groups = length r.totals.items; nodes = length r.loads.items } };
 
-    ghost invariant = { λ r. (length r.amounts.items ≡ 16 * length r.totals.items) × (length r.worst.items ≡ length r.loads.items) };
+    ghost invariant = { λ r. (length r.amounts.items ≡ 16 * length r.totals.items)
+        × (length r.worst.items ≡ length r.loads.items) };
 }
 
 impl CheckRoom {
@@ -44,7 +45,8 @@ impl CheckRoom {
     ///
     /// `NoMemory`.
     pub fn new(alloc: Global, instance: &Instance) -> Result<CheckRoom, NoMemory>
-        ensures { IfOk result (λ r. r ≡ record { groups = length instance.now.groups; nodes = length instance.now.nodes }) }
+        ensures { IfOk result (λ r. r ≡ record
+            { groups = length instance.now.groups; nodes = length instance.now.nodes }) }
     {
         let groups = instance.groups() as usize;
         let nodes = instance.nodes() as usize;
@@ -116,7 +118,11 @@ fn judge(
 
 /// Whether a map is good for an instance, or which fault it has first.
 pub fn check(instance: &Instance, map: &MapLines, room: &mut CheckRoom) -> Verdict
-    requires { room.old ≡ record { groups = length instance.now.groups; nodes = length instance.now.nodes } }
+    requires { room.old ≡ record {
+      groups = length instance.now.groups;
+      nodes = length
+          instance.now.nodes;
+    } }
     ensures judged { Judges instance.now map.now.lines.items map.now.names.items result }
     ensures good { (result ≡ Good) ↔ IsGood instance.now map.now.lines.items map.now.names.items }
     ensures room { room.new ≡ room.old }

@@ -27,7 +27,8 @@ fn is_line_at(instance: &Instance, lines: &[MapLine], i: usize) -> bool
 
 /// The first line that is not in the form of a map.
 pub fn first_bad_line(instance: &Instance, lines: &[MapLine]) -> Option<usize>
-    ensures { MatchOption result (AreLines instance.now lines.now) (IsFirstBadLine instance.now lines.now) }
+    ensures { MatchOption result (AreLines instance.now lines.now)
+        (IsFirstBadLine instance.now lines.now) }
 {
     for i in 0..lines.len() {
         if !is_line_at(instance, lines, i) {

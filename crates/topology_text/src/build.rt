@@ -52,7 +52,8 @@ pub fn items_in(entry: &Value, key: Key) -> &[Value]
 /// The node whose name stands at `parent`.
 fn parent_in(index: &Entries<'_>, entry: &Value) -> Option<usize>
     requires { IsSound (entries index.now) }
-    ensures number { result ≡ option_and_then (number_of (entries index.now).nodes) (text_at (view entry.now) Key.Parent) }
+    ensures number { result ≡ option_and_then (number_of (entries index.now).nodes)
+        (text_at (view entry.now) Key.Parent) }
     ensures fits { IfSome result (λ n. n < 2 ^ 32) }
 {
     let name = text_at(entry, Key::Parent)?;
@@ -112,7 +113,8 @@ fn choice(
     requires place { place < length pools.now }
     requires scores { All (λ s. natural s < 2 ^ 32) (map view scores.now) }
     requires limits { All (λ l. (1 ≤ natural l) × (natural l < 2 ^ 32)) (map view limits.now) }
-    ensures { result ≡ choice_in (entries index.now).nodes (map view pools.now) (map view scores.now) (map view limits.now) place }
+    ensures { result ≡ choice_in (entries index.now).nodes (map view pools.now)
+        (map view scores.now) (map view limits.now) place }
 {
     let pool = pool_in(index, &pools[place]);
     let score = natural(&scores[place]);
@@ -134,7 +136,9 @@ fn choices(
     requires beside { length scores.now ≡ length pools.now }
     requires scores { All (λ s. natural s < 2 ^ 32) (map view scores.now) }
     requires limits { All (λ l. (1 ≤ natural l) × (natural l < 2 ^ 32)) (map view limits.now) }
-    ensures { IfOk result (λ v. v.items ≡ map (choice_in (entries index.now).nodes (map view pools.now) (map view scores.now) (map view limits.now)) (range_with_len 0 (length pools.now))) }
+    ensures { IfOk result (λ v. v.items
+        ≡ map (choice_in (entries index.now).nodes (map view pools.now) (map view scores.now)
+        (map view limits.now)) (range_with_len 0 (length pools.now))) }
 {
     let mut choices = Vec::new(alloc);
     for place in 0..pools.len() {
@@ -168,7 +172,8 @@ fn push_rows(
 ) -> Result<(), AllocError>
     requires sound { IsSound (entries index.now) }
     requires each { All (λ e. IsSoundGroup (entries index.now).nodes e) (map view units.now) }
-    ensures { OnOk result (rows.new.items ≡ rows.old.items ++ map (group_of (entries index.now).nodes) (map view units.now)) }
+    ensures { OnOk result (rows.new.items ≡ rows.old.items
+        ++ map (group_of (entries index.now).nodes) (map view units.now)) }
 {
     for entry in units {
         rows.push(group_row(alloc, index, entry)?)?;
@@ -179,7 +184,8 @@ fn push_rows(
 /// The rows of groups and of the classes behind them.
 fn group_rows(alloc: Global, index: &Entries<'_>) -> Result<Vec<ClientGroup>, AllocError>
     requires { IsSound (entries index.now) }
-    ensures { IfOk result (λ v. v.items ≡ map (group_of (entries index.now).nodes) (units_of (entries index.now))) }
+    ensures { IfOk result (λ v. v.items
+        ≡ map (group_of (entries index.now).nodes) (units_of (entries index.now))) }
 {
     let mut rows = Vec::new(alloc);
     push_rows(alloc, index, &mut rows, index.groups())?;
@@ -189,7 +195,8 @@ fn group_rows(alloc: Global, index: &Entries<'_>) -> Result<Vec<ClientGroup>, Al
 
 fn node_rows(alloc: Global, index: &Entries<'_>) -> Result<Vec<Node>, AllocError>
     requires { IsSound (entries index.now) }
-    ensures { IfOk result (λ v. v.items ≡ map (node_of (entries index.now).nodes) (entries index.now).nodes) }
+    ensures { IfOk result (λ v. v.items
+        ≡ map (node_of (entries index.now).nodes) (entries index.now).nodes) }
 {
     let mut rows = Vec::new(alloc);
     for entry in index.nodes() {

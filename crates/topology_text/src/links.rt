@@ -61,7 +61,8 @@ fn is_taken_group(index: &Entries<'_>, i: usize, name: &str) -> bool
 
 /// The first of that name is another unit than class number i.
 fn is_taken_class(index: &Entries<'_>, i: usize, name: &str) -> bool
-    ensures { result ≡ is_taken (units_of (entries index.now)) (length (entries index.now).groups + i) (Some name.now) }
+    ensures { result ≡ is_taken (units_of (entries index.now)) (length (entries index.now).groups
+        + i) (Some name.now) }
 {
     match index.group_number(name) {
         Some(_) => true,
@@ -99,13 +100,15 @@ fn is_repeat_at(repeats: &[bool], spot: Spot) -> bool
 pub struct DuplicateName<'a> {
     index: &'a Entries<'a>,
     repeats: &'a [bool],
-    ghost repeats_are: { (i : ℕ) → slice_index_or repeats.now i false ≡ repeats_pair (entries index.now) i },
+    ghost repeats_are: { (i : ℕ) → slice_index_or repeats.now i false
+        ≡ repeats_pair (entries index.now) i },
 }
 
 impl<'a> DuplicateName<'a> {
     /// The rule over these entries, with a flag for each class that repeats an earlier one's group and service.
     pub fn new(index: &'a Entries<'a>, repeats: &'a [bool]) -> DuplicateName<'a>
-        requires { (i : ℕ) → slice_index_or repeats.now i false ≡ repeats_pair (entries index.now) i }
+        requires { (i : ℕ) → slice_index_or repeats.now i false
+            ≡ repeats_pair (entries index.now) i }
         ensures { result.index.now ≡ index.now }
     {
         DuplicateName { index, repeats }
@@ -131,7 +134,8 @@ impl<'a> Rule for DuplicateName<'a> {
 
 /// A pool has that name.
 fn is_pool_name(index: &Entries<'_>, name: &str) -> bool
-    ensures { result ≡ is_pool_number (entries index.now).nodes (number_of (entries index.now).nodes name.now) }
+    ensures { result ≡ is_pool_number (entries index.now).nodes
+        (number_of (entries index.now).nodes name.now) }
 {
     match index.node_number(name) {
         Some(node) => index.is_pool(node),
@@ -163,7 +167,8 @@ impl<'a> Test for UnknownName<'a> {
 
 /// The node's parent doesn't stand earlier, or is a pool.
 fn is_misplaced(index: &Entries<'_>, node: usize) -> bool
-    ensures { result ≡ is_misplaced (entries index.now).nodes node (parent_of (entries index.now).nodes node) }
+    ensures { result ≡ is_misplaced (entries index.now).nodes node
+        (parent_of (entries index.now).nodes node) }
 {
     match index.parent(node) {
         Some(parent) => parent >= node || index.is_pool(parent),
@@ -268,7 +273,8 @@ fn slot_of(text: &str) -> usize
 fn is_noted(slots: &mut [bool], text: &str) -> bool
     ensures before { result ≡ slice_index_or slots.old (slot_of text.now) true }
     ensures noted { slice_index_or slots.new (slot_of text.now) true ≡ true }
-    ensures kept { (slot : ℕ) → slice_index_or slots.old slot true ≡ true → slice_index_or slots.new slot true ≡ true }
+    ensures kept { (slot : ℕ) → slice_index_or slots.old slot true ≡ true
+        → slice_index_or slots.new slot true ≡ true }
 {
     let slot = slot_of(text);
     if slot >= slots.len() {
@@ -296,7 +302,8 @@ fn stands_again(slots: &mut [bool], text: &str, later: &[Value]) -> bool
 fn first_stands_again(slots: &mut [bool], items: &[Value]) -> bool
     requires some { 1 ≤ length items.now }
     requires noted { AreInSlots slots.old (texts_of (map view (drop 1 items.now))) }
-    ensures found { has_repeat (texts_of (map view items.now)) ≡ (result || has_repeat (texts_of (map view (drop 1 items.now)))) }
+    ensures found { has_repeat (texts_of (map view items.now))
+        ≡ (result || has_repeat (texts_of (map view (drop 1 items.now)))) }
     ensures noted { AreInSlots slots.new (texts_of (map view items.now)) }
 {
     match items[0].as_str() {

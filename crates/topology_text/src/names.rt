@@ -68,7 +68,9 @@ fn note_first<'a>(
     name: &'a str,
     number: usize,
 ) -> Result<(), AllocError>
-    ensures { OnOk result ((q : List ℕ) → get_by (λ k. bytes_eq q k.now) numbers.new ≡ option_or (get_by (λ k. bytes_eq q k.now) numbers.old) (if bytes_eq name.now q then Some number else None)) }
+    ensures { OnOk result ((q : List ℕ) → get_by (λ k. bytes_eq q k.now) numbers.new
+        ≡ option_or (get_by (λ k. bytes_eq q k.now) numbers.old) (if bytes_eq name.now q
+        then Some number else None)) }
 {
     if let None = numbers.get(name) {
         numbers.insert(name, number)?;
@@ -78,7 +80,8 @@ fn note_first<'a>(
 
 /// The first number of each name.
 pub fn numbers_of(alloc: Global, entries: &[Value]) -> Result<HashMap<&str, usize>, AllocError>
-    ensures { IfOk result (λ m. (q : List ℕ) → get_by (λ k. bytes_eq q k.now) m ≡ number_of (map view entries.now) q) }
+    ensures { IfOk result (λ m. (q : List ℕ) → get_by (λ k. bytes_eq q k.now) m
+        ≡ number_of (map view entries.now) q) }
 {
     let mut numbers = HashMap::new(alloc);
     for (i, entry) in entries.iter().enumerate() {
@@ -133,7 +136,8 @@ fn no_guesses<'a>(alloc: Global) -> Result<Vec<Guess<'a>>, AllocError>
 
 /// Puts a name with its first number at its place.
 fn put_guess<'a>(guesses: &mut [Guess<'a>], name: &'a str, number: usize)
-    ensures { (entries : List Data) → AreFirst entries guesses.old → number_of entries name.now ≡ Some number → AreFirst entries guesses.new }
+    ensures { (entries : List Data) → AreFirst entries guesses.old → number_of entries name.now
+        ≡ Some number → AreFirst entries guesses.new }
 {
     let place = place_of(name);
     if place < guesses.len() {
@@ -143,7 +147,8 @@ fn put_guess<'a>(guesses: &mut [Guess<'a>], name: &'a str, number: usize)
 
 /// Puts an entry's name with its first number at its place.
 fn put_entry<'a>(guesses: &mut [Guess<'a>], numbers: &HashMap<&'a str, usize>, entry: &'a Value)
-    ensures { (entries : List Data) → ((q : List ℕ) → get_by (λ k. bytes_eq q k.now) numbers.now ≡ number_of entries q) → AreFirst entries guesses.old → AreFirst entries guesses.new }
+    ensures { (entries : List Data) → ((q : List ℕ) → get_by (λ k. bytes_eq q k.now) numbers.now
+        ≡ number_of entries q) → AreFirst entries guesses.old → AreFirst entries guesses.new }
 {
     if let Some(name) = text_at(entry, Key::Name) {
         if let Some(number) = numbers.get(name) {
@@ -158,7 +163,8 @@ fn guesses_of<'a>(
     entries: &'a [Value],
     numbers: &HashMap<&'a str, usize>,
 ) -> Result<Vec<Guess<'a>>, AllocError>
-    requires { (q : List ℕ) → get_by (λ k. bytes_eq q k.now) numbers.now ≡ number_of (map view entries.now) q }
+    requires { (q : List ℕ) → get_by (λ k. bytes_eq q k.now) numbers.now
+        ≡ number_of (map view entries.now) q }
     ensures { IfOk result (λ v. AreFirst (map view entries.now) v.items) }
 {
     let mut guesses = no_guesses(alloc)?;
@@ -170,7 +176,8 @@ fn guesses_of<'a>(
 
 /// The first number of a name, if the name is found at its place.
 fn guessed(guesses: &[Guess<'_>], name: &str) -> Option<usize>
-    ensures { (entries : List Data) → AreFirst entries guesses.now → IfSome result (λ n. number_of entries name.now ≡ Some n) }
+    ensures { (entries : List Data) → AreFirst entries guesses.now
+        → IfSome result (λ n. number_of entries name.now ≡ Some n) }
 {
     let guess = *guesses.get(place_of(name))?;
     let (other, number) = guess?;
@@ -194,7 +201,8 @@ fn pools_of(alloc: Global, entries: &[Value]) -> Result<Vec<bool>, AllocError>
 
 /// The zone's top name, if there is one.
 fn zone_apex(zone: Option<&Table>) -> Option<Name>
-    ensures { result ≡ option_and_then zone_name (zone_text (option_map (λ t. table_view t.now) zone.entry) Key.Apex) }
+    ensures { result ≡ option_and_then zone_name
+        (zone_text (option_map (λ t. table_view t.now) zone.entry) Key.Apex) }
 {
     match zone_text(zone, Key::Apex) {
         Some(text) => zone_name(text),
@@ -227,14 +235,22 @@ pub struct Entries<'a> {
     ns_repeat: Option<At>,
     services_repeat: Option<At>,
     ghost pools_are: { pools.items ≡ map is_pool (map view nodes.now) },
-    ghost nodes_are: { (q : List ℕ) → get_by (λ k. bytes_eq q k.now) node_numbers ≡ number_of (map view nodes.now) q },
+    ghost nodes_are: { (q : List ℕ) → get_by (λ k. bytes_eq q k.now) node_numbers
+        ≡ number_of (map view nodes.now) q },
     ghost guesses_are: { AreFirst (map view nodes.now) guesses.items },
-    ghost groups_are: { (q : List ℕ) → get_by (λ k. bytes_eq q k.now) group_numbers ≡ number_of (map view groups.now) q },
-    ghost classes_are: { (q : List ℕ) → get_by (λ k. bytes_eq q k.now) class_numbers ≡ number_of (map view classes.now) q },
-    ghost names_are: { services ≡ names_in Services (zone_items (option_map (λ t. table_view t.now) zone) Services) },
-    ghost apex_is: { apex ≡ option_and_then zone_name (zone_text (option_map (λ t. table_view t.now) zone) Apex) },
-    ghost ns_are: { ns_repeat ≡ first (repeats_in Ns (zone_items (option_map (λ t. table_view t.now) zone) Ns)) },
-    ghost services_are: { services_repeat ≡ first (repeats_in Services (zone_items (option_map (λ t. table_view t.now) zone) Services)) },
+    ghost groups_are: { (q : List ℕ) → get_by (λ k. bytes_eq q k.now) group_numbers
+        ≡ number_of (map view groups.now) q },
+    ghost classes_are: { (q : List ℕ) → get_by (λ k. bytes_eq q k.now) class_numbers
+        ≡ number_of (map view classes.now) q },
+    ghost names_are: { services ≡ names_in Services
+        (zone_items (option_map (λ t. table_view t.now) zone) Services) },
+    ghost apex_is: { apex ≡ option_and_then zone_name
+        (zone_text (option_map (λ t. table_view t.now) zone) Apex) },
+    ghost ns_are: { ns_repeat ≡ first (repeats_in Ns
+        (zone_items (option_map (λ t. table_view t.now) zone) Ns)) },
+    ghost services_are: { services_repeat
+        ≡ first (repeats_in Services (zone_items (option_map (λ t. table_view t.now) zone)
+        Services)) },
 }
 
 impl<'a> Entries<'a> {
@@ -282,7 +298,8 @@ impl<'a> Entries<'a> {
 
     /// The first service that stands earlier too.
     pub fn services_repeat(&self) -> Option<At>
-        ensures { result ≡ first (repeats_in Key.Services (zone_items (entries self.now).zone Key.Services)) }
+        ensures { result ≡ first (repeats_in Key.Services
+            (zone_items (entries self.now).zone Key.Services)) }
     {
         self.services_repeat
     }
@@ -296,7 +313,8 @@ impl<'a> Entries<'a> {
 
     /// The zone's top name, if there is one.
     pub fn apex(&self) -> Option<&Name>
-        ensures { option_map (λ n. n.now) result ≡ option_and_then zone_name (zone_text (entries self.now).zone Key.Apex) }
+        ensures { option_map (λ n. n.now) result
+            ≡ option_and_then zone_name (zone_text (entries self.now).zone Key.Apex) }
     {
         self.apex.as_ref()
     }

@@ -31,7 +31,8 @@ fn is_repeat(
 
 /// Of each class whether an earlier one is of its group and service.
 pub fn repeated_pairs(alloc: Global, index: &Entries<'_>) -> Result<Vec<bool>, AllocError>
-    ensures { IfOk result (λ v. (i : ℕ) → slice_index_or v.items i false ≡ repeats_pair (entries index.now) i) }
+    ensures { IfOk result (λ v. (i : ℕ) → slice_index_or v.items i false
+        ≡ repeats_pair (entries index.now) i) }
 {
     let mut seen = IndexSet::new(alloc);
     let mut repeats = Vec::new(alloc);
@@ -43,8 +44,10 @@ pub fn repeated_pairs(alloc: Global, index: &Entries<'_>) -> Result<Vec<bool>, A
 
 /// The group and the service of each class.
 pub fn pairs(alloc: Global, index: &Entries<'_>) -> Result<Vec<(GroupId, u8)>, AllocError>
-    requires { All (λ p. IfSome (pair_of (entries index.now) p) (λ q. (q.0 < 2 ^ 32) × (q.1 < 256))) (entries index.now).classes }
-    ensures { IfOk result (λ v. v.items ≡ map kept_pair (filter_map (pair_of (entries index.now)) (entries index.now).classes)) }
+    requires { All (λ p. IfSome (pair_of (entries index.now) p) (λ q. (q.0 < 2 ^ 32) × (q.1 < 256)))
+        (entries index.now).classes }
+    ensures { IfOk result (λ v. v.items
+        ≡ map kept_pair (filter_map (pair_of (entries index.now)) (entries index.now).classes)) }
 {
     let mut pairs = Vec::new(alloc);
     for class in index.classes() {

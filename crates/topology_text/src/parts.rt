@@ -42,8 +42,10 @@ fn push_names(
     names: &mut IndexSet<Vec<u8>>,
     entries: &[Value],
 ) -> Result<(), AllocError>
-    requires { AllPairs (λ a b. a ≡ b → ⊥) (map (λ v. v.items) names.old.keys ++ map name_of (map view entries.now)) }
-    ensures { OnOk result (map (λ v. v.items) names.new.keys ≡ map (λ v. v.items) names.old.keys ++ map name_of (map view entries.now)) }
+    requires { AllPairs (λ a b. a ≡ b → ⊥) (map (λ v. v.items) names.old.keys
+        ++ map name_of (map view entries.now)) }
+    ensures { OnOk result (map (λ v. v.items) names.new.keys ≡ map (λ v. v.items) names.old.keys
+        ++ map name_of (map view entries.now)) }
 {
     for entry in entries {
         let name = name_of(alloc, entry)?;
@@ -65,7 +67,8 @@ fn names(alloc: Global, entries: &[Value]) -> Result<IndexSet<Vec<u8>>, AllocErr
 /// The names of groups and of the classes behind them.
 fn unit_names(alloc: Global, index: &Entries<'_>) -> Result<IndexSet<Vec<u8>>, AllocError>
     requires { AllPairs (λ a b. a ≡ b → ⊥) (map name_of (units_of (entries index.now))) }
-    ensures { IfOk result (λ s. map (λ v. v.items) s.keys ≡ map name_of (units_of (entries index.now))) }
+    ensures { IfOk result (λ s. map (λ v. v.items) s.keys
+        ≡ map name_of (units_of (entries index.now))) }
 {
     let mut names = names(alloc, index.groups())?;
     push_names(alloc, &mut names, index.classes())?;
@@ -139,7 +142,8 @@ fn owned(alloc: Global, prefixes: &[PrefixAt]) -> Result<Vec<(Prefix, GroupId)>,
 
 /// The name at a key of the zone.
 fn zone_name_at(zone: Option<&Table>, key: Key) -> Name
-    requires { IsTrue (is_some (option_and_then zone_name (zone_text (option_map (λ t. table_view t.now) zone) key))) }
+    requires { IsTrue (is_some (option_and_then zone_name
+        (zone_text (option_map (λ t. table_view t.now) zone) key))) }
     ensures { result ≡ zone_name_at (option_map (λ t. table_view t.now) zone.entry) key }
 {
     zone_text(zone, key)

@@ -39,7 +39,8 @@ fn push_prefixes(
     group: usize,
     items: &[Value],
 ) -> Result<(), AllocError>
-    ensures { OnOk result (prefixes.new.items ≡ prefixes.old.items ++ prefixes_from group 0 (map view items.now)) }
+    ensures { OnOk result (prefixes.new.items ≡ prefixes.old.items
+        ++ prefixes_from group 0 (map view items.now)) }
 {
     for (i, item) in items.iter().enumerate() {
         if let Some(prefix) = prefix_in(item) {
@@ -55,7 +56,8 @@ fn push_prefixes(
 
 /// Adds the prefixes of a table, if it is a group.
 fn push_table(prefixes: &mut Vec<PrefixAt>, table: &TableAt<'_>) -> Result<(), AllocError>
-    ensures { OnOk result (prefixes.new.items ≡ prefixes.old.items ++ prefixes_at table.now.spot (items_at (table_view table.now.table.now) Key.Prefixes)) }
+    ensures { OnOk result (prefixes.new.items ≡ prefixes.old.items
+        ++ prefixes_at table.now.spot (items_at (table_view table.now.table.now) Key.Prefixes)) }
 {
     match table.spot {
         Spot::GroupTable(group) => { push_prefixes(prefixes, group, table.items(Key::Prefixes)) }
@@ -137,7 +139,8 @@ pub fn first_lacking(prefixes: &[PrefixAt]) -> Option<Place>
 
 /// How many prefixes a group's table has.
 fn count_at(table: &TableAt<'_>) -> usize
-    ensures { result ≡ count_at table.now.spot (items_at (table_view table.now.table.now) Key.Prefixes) }
+    ensures { result ≡ count_at table.now.spot
+        (items_at (table_view table.now.table.now) Key.Prefixes) }
 {
     match table.spot {
         Spot::GroupTable(_) => table.items(Key::Prefixes).len(),

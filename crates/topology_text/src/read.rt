@@ -95,7 +95,8 @@ fn check_values(tables: &[TableAt<'_>]) -> Result<(), TopologyFault>
 /// The prefixes beside one another; the first that stands earlier too was looked for.
 fn check_prefixes(prefixes: &[PrefixAt], duplicate: Option<Place>) -> Result<(), TopologyFault>
     requires { duplicate ≡ first (duplicate_prefixes prefixes.now) }
-    ensures { result ≡ checked (map TopologyFault.DuplicatePrefix (duplicate_prefixes prefixes.now) ++ map TopologyFault.NoDefault (no_default prefixes.now)) }
+    ensures { result ≡ checked (map TopologyFault.DuplicatePrefix (duplicate_prefixes prefixes.now)
+        ++ map TopologyFault.NoDefault (no_default prefixes.now)) }
 {
     if let Some(place) = duplicate {
         return Err(TopologyFault::DuplicatePrefix(place));
@@ -133,7 +134,8 @@ fn check(
     prefixes: &[PrefixAt],
     duplicate: Option<Place>,
 ) -> Result<(), TopologyFault>
-    requires repeats { (i : ℕ) → slice_index_or repeats.now i false ≡ repeats_pair (entries index.now) i }
+    requires repeats { (i : ℕ) → slice_index_or repeats.now i false
+        ≡ repeats_pair (entries index.now) i }
     requires prefixes { prefixes.now ≡ all_prefixes (map visit tables.now) }
     requires duplicate { duplicate ≡ first (duplicate_prefixes prefixes.now) }
     ensures { result ≡ checked (faults_on (entries index.now) (map visit tables.now)) }
@@ -174,7 +176,8 @@ fn parse(alloc: Global, bytes: &[u8]) -> Result<Table, TopologyFault>
 ///
 /// The first fault, with its place; `NoMemory`, which may come in the place of either.
 pub fn read_topology(alloc: Global, bytes: &[u8]) -> Result<Topology, TopologyFault>
-    ensures { MatchResult result (λ t. reading bytes.now ≡ Ok t) (λ e. ¬ (e ≡ TopologyFault.NoMemory) → reading bytes.now ≡ Err e) }
+    ensures { MatchResult result (λ t. reading bytes.now
+        ≡ Ok t) (λ e. ¬ (e ≡ TopologyFault.NoMemory) → reading bytes.now ≡ Err e) }
 {
     let table = parse(alloc, bytes)?;
     let tables = walk(alloc, &table)?;

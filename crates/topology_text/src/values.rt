@@ -271,7 +271,9 @@ fn are_many_units(table: &TableAt<'_>) -> bool
 
 /// The array at a key is past the key's limit.
 fn past_limit(table: &TableAt<'_>, key: Key) -> Option<At>
-    ensures { result ≡ first (whole_if (is_over (limit_of key) (length (items_of_value (value_at (table_view table.now.table.now) key))))) }
+    ensures { result ≡ first (whole_if
+        (is_over (limit_of key) (length (items_of_value
+        (value_at (table_view table.now.table.now) key))))) }
 {
     match limit_of(key) {
         Some(limit) if table.items(key).len() > limit => Some(At::Whole),

@@ -41,7 +41,8 @@ pub fn items_of<'a>(table: &'a Table, key: Key) -> &'a [Value]
 
 /// The values at the keys that such a table has.
 fn row_of<'a>(spot: Spot, table: &'a Table) -> ArrayVec<Option<&'a Value>, MOST_KEYS>
-    ensures { map (option_map (λ v. v.now)) result.items ≡ map (found_at table.now.entries) (keys_of spot) }
+    ensures { map (option_map (λ v. v.now)) result.items
+        ≡ map (found_at table.now.entries) (keys_of spot) }
 {
     let mut row = ArrayVec::new();
     for key in spot.keys() {
@@ -56,7 +57,8 @@ pub struct TableAt<'a> {
     pub spot: Spot,
     pub table: &'a Table,
     row: ArrayVec<Option<&'a Value>, MOST_KEYS>,
-    ghost row_is: { ∥ map (option_map (λ v. v.now)) row.items ≡ map (found_at table.now.entries) (keys_of spot) ∥₁ },
+    ghost row_is: { ∥ map (option_map (λ v. v.now)) row.items
+        ≡ map (found_at table.now.entries) (keys_of spot) ∥₁ },
 }
 
 impl<'a> TableAt<'a> {
@@ -75,7 +77,8 @@ impl<'a> TableAt<'a> {
 
     /// The value at a key.
     pub fn value(&self, key: Key) -> Option<&'a Value>
-        ensures { option_map (λ v. view v.now) result ≡ value_at (table_view self.now.table.now) key }
+        ensures { option_map (λ v. view v.now) result
+            ≡ value_at (table_view self.now.table.now) key }
     {
         let place = key.place(self.spot);
         match (self.spot.keys().get(place), self.row.as_slice().get(place)) {
@@ -86,7 +89,8 @@ impl<'a> TableAt<'a> {
 
     /// The items of the array at a key.
     pub fn items(&self, key: Key) -> &'a [Value]
-        ensures { map view result.now ≡ items_of_value (value_at (table_view self.now.table.now) key) }
+        ensures { map view result.now ≡ items_of_value
+            (value_at (table_view self.now.table.now) key) }
     {
         match self.value(key) {
             Some(value) => items_of_value(value),
@@ -96,7 +100,8 @@ impl<'a> TableAt<'a> {
 
     /// The text at a key.
     pub fn text(&self, key: Key) -> Option<&'a str>
-        ensures { option_map (λ t. t.now) result ≡ text_in (value_at (table_view self.now.table.now) key) }
+        ensures { option_map (λ t. t.now) result
+            ≡ text_in (value_at (table_view self.now.table.now) key) }
     {
         match self.value(key) {
             Some(Value::String(text)) => Some(text.as_str()),

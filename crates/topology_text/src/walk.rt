@@ -36,7 +36,8 @@ fn push_entries<'a>(
     key: Key,
     values: &'a [Value],
 ) -> Result<(), AllocError>
-    ensures { OnOk result (map visit tables.new.items ≡ map visit tables.old.items ++ entries_from key 0 (map view values.now)) }
+    ensures { OnOk result (map visit tables.new.items ≡ map visit tables.old.items
+        ++ entries_from key 0 (map view values.now)) }
 {
     for (i, value) in values.iter().enumerate() {
         let spot = entry_spot(key, i);
@@ -49,7 +50,8 @@ fn push_entries<'a>(
 
 /// Adds the zone, if it is a table.
 fn push_zone<'a>(tables: &mut Vec<TableAt<'a>>, top: &'a Table) -> Result<(), AllocError>
-    ensures { OnOk result (map visit tables.new.items ≡ map visit tables.old.items ++ zone_visits (value_at (table_view top.now) Key.Zone)) }
+    ensures { OnOk result (map visit tables.new.items ≡ map visit tables.old.items
+        ++ zone_visits (value_at (table_view top.now) Key.Zone)) }
 {
     if let Some(value) = value_of(top, Key::Zone) {
         if let Some(table) = table_in(Spot::ZoneTable, value) {

@@ -17,7 +17,8 @@ use toml::{Table, Value};
 
 /// The zone, if it is a table.
 pub fn zone_table(top: &Table) -> Option<&Table>
-    ensures { option_map (λ t. table_view t.now) result ≡ table_in (value_at (table_view top.now) Key.Zone) }
+    ensures { option_map (λ t. table_view t.now) result
+        ≡ table_in (value_at (table_view top.now) Key.Zone) }
 {
     match value_of(top, Key::Zone) {
         Some(value) => value.as_table(),
@@ -37,7 +38,8 @@ pub fn zone_items(zone: Option<&Table>, key: Key) -> &[Value]
 
 /// The text at a key of the zone.
 pub fn zone_text(zone: Option<&Table>, key: Key) -> Option<&str>
-    ensures { option_map (λ t. t.now) result ≡ zone_text (option_map (λ t. table_view t.now) zone.entry) key }
+    ensures { option_map (λ t. t.now) result
+        ≡ zone_text (option_map (λ t. table_view t.now) zone.entry) key }
 {
     match zone {
         Some(table) => text_of(table, key),
@@ -70,7 +72,8 @@ fn is_repeat(
     name: Option<Name>,
 ) -> Result<bool, AllocError>
     ensures found { IfOk result (λ b. b ≡ is_seen (map (λ v. v.items) seen.old.keys) name) }
-    ensures noted { result ≡ Ok false → map (λ v. v.items) seen.new.keys ≡ map (λ v. v.items) seen.old.keys ++ folds_of name }
+    ensures noted { result ≡ Ok false → map (λ v. v.items) seen.new.keys
+        ≡ map (λ v. v.items) seen.old.keys ++ folds_of name }
 {
     match name {
         Some(name) => {
