@@ -63,14 +63,6 @@ abbrev pub AreTurns : {V : Type 0} → Answers V → ℕ → List Turn → Momen
 AreTurns a w [] m m' = m' ≡ m
 AreTurns {V = V} a w (t ∷ log) m m' = (mid : Moment V) × IsTurn a w t m mid × AreTurns a w log mid m'
 
--- the gate answered Stop, and nothing else was asked
-pub record IsStop {V : Type 0} (m m' : Moment V) : Type 0 where
-  pub shown : ℕ
-  pub is_known : shown + 1 ≡ length m.eyes.heard
-  pub gate : BothTell m.gate m'.gate (IsTurning shown Stop)
-  pub later : m.gate_faults ≤ m'.gate_faults
-  pub rest : m' ≡ record m { gate = m'.gate; gate_faults = m'.gate_faults }
-
 -- Why a lane ended after these turns. All turns but the last go on: recv didn't answer End, no look was refused, fewer than eight calls of the port failed.
 abbrev pub IsEnd : ℕ → List Turn → Ended → Type 0
 IsEnd turns log end.Stopped = AreCalm log × (failures log < 8) × (length log < turns)
@@ -79,15 +71,6 @@ IsEnd turns log end.PortFault = (before : List Turn) × (t : Turn) × (log ≡ b
 IsEnd turns log end.CellFault = (before : List Turn) × (t : Turn) × (log ≡ before ++ t ∷ []) × AreCalm before × (failures before < 8) × (is_refused t.came ≡ true) × (length log ≤ turns)
 IsEnd turns log (end.Above known newest) = ⊥
 IsEnd turns log end.Spent = AreCalm log × (failures log < 8) × (length log ≡ turns)
-
--- after the last turn a Stop, or nothing
-abbrev pub IsLast : {V : Type 0} → Ended → Moment V → Moment V → Type 0
-IsLast end.Stopped m m' = IsStop m m'
-IsLast end.PortEnd m m' = m' ≡ m
-IsLast end.PortFault m m' = m' ≡ m
-IsLast end.CellFault m m' = m' ≡ m
-IsLast (end.Above known newest) m m' = m' ≡ m
-IsLast end.Spent m m' = m' ≡ m
 
 -- a gate after some turns, and at Stopped after its Stop
 abbrev pub IsGateRun : ℕ → List Turn → Ended → GateTold → GateTold → Type 0
