@@ -34,21 +34,7 @@ pub(crate) struct Loan<'x, 'f, 'o, 'm, 'p, 'l, J: Naming, S, K, M, L> {
     pub lanes: &'l mut [L],
 }
 
-/// Of how many maps the row of notes tells by what a run was lent.
-fn told_by<K, M>(to: &Outputs<'_, '_, '_, K, M>) -> Told
-    ensures { result ≡ to.now.told }
-{
-    to.told
-}
-
 impl<J: Naming, S, K, M> FeedLoan<'_, '_, '_, '_, '_, J, S, K, M> {
-    /// Of how many maps the row of notes tells.
-    pub fn told(&self) -> Told
-        ensures { result ≡ self.now.told }
-    {
-        self.told
-    }
-
     /// The note of the newest map.
     pub fn note(&self) -> Note<J>
         ensures note { result.front ≡ self.now.mapper.now.history }
@@ -83,7 +69,7 @@ impl<J: Naming, S: Source, K: Sink, M: Pace> Feeds<NoteRow<J>>
         self.end = self
             .mapper
             .run_feed(rt, self.feed, &mut to, row, self.turns);
-        self.told = told_by(&to);
+        self.told = to.told;
     }
 }
 
@@ -143,13 +129,6 @@ pub(crate) struct TakerLoan<'x, 't, 'o, 'm, 'p, J: Naming, N: Numbers, K, M> {
 }
 
 impl<J: Naming, N: Numbers, K, M> TakerLoan<'_, '_, '_, '_, '_, J, N, K, M> {
-    /// Of how many maps the row of notes tells.
-    pub fn told(&self) -> Told
-        ensures { result ≡ self.now.told }
-    {
-        self.told
-    }
-
     /// The note of the newest map.
     pub fn note(&self) -> Note<J>
         ensures note { result.front ≡ self.now.mapper.now.history }
@@ -183,6 +162,6 @@ impl<J: Naming, N: Numbers, K: Sink, M: Pace> Feeds<NoteRow<J>>
             told,
         };
         self.end = self.mapper.run_feeds(rt, self.taker, &mut to, row);
-        self.told = told_by(&to);
+        self.told = to.told;
     }
 }

@@ -158,7 +158,7 @@ fn hand_on<J: Naming, R: Wait>(rt: &R, row: &NoteRow<J>, note: Note<J>) {
 }
 
 /// Hands on the first map's note, runs the feed beside the lanes, and then makes the closing look of each. What is lent
-/// stays lent. It answers of how many maps the row of notes tells then.
+/// stays lent.
 fn serve_all<
     J: Naming + Send + Sync,
     S: Source,
@@ -174,7 +174,7 @@ fn serve_all<
     works: &mut Workers<NoteRow<J>, LaneWorker<J>>,
     loan: &mut Loan<'_, '_, '_, '_, '_, '_, J, S, K, M, Lane<P, G, D>>,
     stream: &mut StreamLane<Q, G, D>,
-) -> Told
+)
     requires turns { loan.old.side.turns ≤ MOST_TURNS }
     requires first { IsAtFirst loan.old.side.mapper.now }
     requires fresh { AllHeld (IsFresh loan.old.side.mapper.now.history loan.old.side.turns)
@@ -192,18 +192,16 @@ fn serve_all<
         loan.old.lanes.now loan.new.lanes.now stream.old stream.new works.new }
     ensures same { length (option_to_list works.new.stream) ≡ length
         (option_to_list works.old.stream) }
-    ensures told { result ≡ loan.new.side.told }
 {
     hand_on(rt, &works.row, loan.side.note());
     run_beside(rt, works, loan.lanes, stream, &mut loan.side);
     let note = loan.side.note();
     close_all(&note, &mut works.lanes, loan.lanes);
     close_more(&note, &mut works.stream, stream);
-    loan.side.told()
 }
 
 /// Hands on the first map's note, runs the feeders and the mapper's side beside the lanes, and then makes the closing look
-/// of each. What is lent stays lent. It answers of how many maps the row of notes tells then.
+/// of each. What is lent stays lent.
 fn serve_several<
     J: Naming + Send + Sync,
     N: Numbers + Send + Sync,
@@ -234,7 +232,7 @@ fn serve_several<
         Lane<P, G, D>,
     >,
     stream: &mut StreamLane<Q, G, D>,
-) -> Told
+)
     requires turns { loan.old.readers.desk.now.turns ≤ MOST_TURNS }
     requires groups { (length (arc_value loan.old.readers.desk.now.topology).market.groups
         ≡ N.groups)
@@ -271,14 +269,12 @@ fn serve_several<
         loan.old.lanes.now loan.new.lanes.now stream.old stream.new works.new }
     ensures same { length (option_to_list works.new.stream) ≡ length
         (option_to_list works.old.stream) }
-    ensures told { result ≡ loan.new.side.told }
 {
     hand_on(rt, &works.row, loan.side.note());
     run_among(rt, loan, works, stream);
     let newest = loan.side.note();
     close_all(&newest, &mut works.lanes, loan.lanes);
     close_more(&newest, &mut works.stream, stream);
-    loan.side.told()
 }
 
 /// Drives one feed, as `drive`.
@@ -344,8 +340,9 @@ fn drive_one<
         },
         lanes: served,
     };
-    let told = serve_all(rt, &mut works, &mut loan, stream);
+    serve_all(rt, &mut works, &mut loan, stream);
     let end = loan.side.end;
+    let told = loan.side.told;
     mapper.close(rt);
     DriveEnd {
         feed: end,
@@ -438,8 +435,9 @@ fn drive_several<
         },
         lanes: served,
     };
-    let told = serve_several(rt, &mut works, &mut loan, stream);
+    serve_several(rt, &mut works, &mut loan, stream);
     let ended = loan.side.end;
+    let told = loan.side.told;
     all_back(&mut taker, first, feeders);
     mapper.close(rt);
     DriveEnd {
