@@ -59,4 +59,3 @@ pub record AreWorked {J N K M : Type 0} (told : K → DeviceState Written) (pace
   pub later : ((told a.out.now).faults ≤ (told b.out.now).faults) × ((told a.maps.now).faults ≤ (told b.maps.now).faults)
   pub sink : b.end ≡ SinkFault → Rose (told a.out.now).faults (told b.out.now).faults ⊎ Rose (told a.maps.now).faults (told b.maps.now).faults
   pub sink_stays : b.end ≢ SinkFault → ((told b.out.now).faults ≡ (told a.out.now).faults) × ((told b.maps.now).faults ≡ (told a.maps.now).faults)
-  pub announced : length a.mapper.now.history ≡ 1 → b.end ≢ SinkFault → AreTold b.mapper.now.history b.told

@@ -34,7 +34,21 @@ pub(crate) struct Loan<'x, 'f, 'o, 'm, 'p, 'l, J: Naming, S, K, M, L> {
     pub lanes: &'l mut [L],
 }
 
+/// Of how many maps the row of notes tells by what a run was lent.
+fn told_by<K, M>(to: &Outputs<'_, '_, '_, K, M>) -> Told
+    ensures { result ≡ to.now.told }
+{
+    to.told
+}
+
 impl<J: Naming, S, K, M> FeedLoan<'_, '_, '_, '_, '_, J, S, K, M> {
+    /// Of how many maps the row of notes tells.
+    pub fn told(&self) -> Told
+        ensures { result ≡ self.now.told }
+    {
+        self.told
+    }
+
     /// The note of the newest map.
     pub fn note(&self) -> Note<J>
         ensures note { result.front ≡ self.now.mapper.now.history }
@@ -69,7 +83,7 @@ impl<J: Naming, S: Source, K: Sink, M: Pace> Feeds<NoteRow<J>>
         self.end = self
             .mapper
             .run_feed(rt, self.feed, &mut to, row, self.turns);
-        self.told = to.told;
+        self.told = told_by(&to);
     }
 }
 
@@ -116,7 +130,7 @@ impl<N: Numbers, S: Source> Sends<Desk, Feeder<N>> for S {
 }
 
 /// What the mapper's side is lent where several feeders read: the mapper, who takes what they send, both outputs and the
-/// pace; and how the feeds ended, and of how many maps the row of notes told then.
+/// pace; and how the feeds ended.
 #[derive(Drop)]
 pub(crate) struct TakerLoan<'x, 't, 'o, 'm, 'p, J: Naming, N: Numbers, K, M> {
     pub mapper: &'x mut Mapper<J>,
@@ -125,7 +139,6 @@ pub(crate) struct TakerLoan<'x, 't, 'o, 'm, 'p, J: Naming, N: Numbers, K, M> {
     pub maps: &'m mut K,
     pub pace: &'p mut M,
     pub end: FeedEnd,
-    pub told: Told,
 }
 
 impl<J: Naming, N: Numbers, K, M> TakerLoan<'_, '_, '_, '_, '_, J, N, K, M> {
@@ -162,6 +175,5 @@ impl<J: Naming, N: Numbers, K: Sink, M: Pace> Feeds<NoteRow<J>>
             told,
         };
         self.end = self.mapper.run_feeds(rt, self.taker, &mut to, row);
-        self.told = to.told;
     }
 }

@@ -1,5 +1,5 @@
 //! A drive: what it takes ahead of the first lane, its run, and its ends.
-ghost use Rattle.std.specs.Prelude.{◌≡◌, ◌≢◌, ◌+◌, ◌≤◌, ◌∷◌, [], List, All, IfOk, IfSome, OnErr, drop, length, map, option_map, vec_len};
+ghost use Rattle.std.specs.Prelude.{◌≡◌, ◌≢◌, ◌+◌, ◌≤◌, ◌∷◌, [], List, All, IfOk, IfSome, IsSome, OnErr, drop, length, map, option_map, vec_len};
 ghost use Rattle.std.specs.Arc.{arc_value};
 ghost use Rattle.std.specs.Option.{option_to_list};
 ghost use Rattle.demand_feed.specs.declared.limits.TheConstants.{MOST_TURNS};
@@ -48,9 +48,8 @@ pub struct DriveEnd {
     pub lanes: [Option<Ended>; MOST_VIEWERS],
     /// How the lane for conversations ended, if it had a viewer.
     pub stream: Option<Ended>,
-    /// Of how many maps, from the first one on, the lanes were told at the end: the row of notes, which all of them read,
-    /// holds a note of each.
-    pub told: Told,
+    /// Of one feed: of how many maps, from the first one on, the row of notes that all lanes read holds a note at the end.
+    pub told: Option<Told>,
 }
 
 /// A worker for each viewer, numbered from 0 on, of so many turns.
@@ -158,7 +157,7 @@ fn hand_on<J: Naming, R: Wait>(rt: &R, row: &NoteRow<J>, note: Note<J>) {
 }
 
 /// Hands on the first map's note, runs the feed beside the lanes, and then makes the closing look of each. What is lent
-/// stays lent.
+/// stays lent. It answers of how many maps the row of notes tells then.
 fn serve_all<
     J: Naming + Send + Sync,
     S: Source,
@@ -174,7 +173,7 @@ fn serve_all<
     works: &mut Workers<NoteRow<J>, LaneWorker<J>>,
     loan: &mut Loan<'_, '_, '_, '_, '_, '_, J, S, K, M, Lane<P, G, D>>,
     stream: &mut StreamLane<Q, G, D>,
-)
+) -> Told
     requires turns { loan.old.side.turns ≤ MOST_TURNS }
     requires first { IsAtFirst loan.old.side.mapper.now }
     requires fresh { AllHeld (IsFresh loan.old.side.mapper.now.history loan.old.side.turns)
@@ -192,12 +191,14 @@ fn serve_all<
         loan.old.lanes.now loan.new.lanes.now stream.old stream.new works.new }
     ensures same { length (option_to_list works.new.stream) ≡ length
         (option_to_list works.old.stream) }
+    ensures told { result ≡ loan.new.side.told }
 {
     hand_on(rt, &works.row, loan.side.note());
     run_beside(rt, works, loan.lanes, stream, &mut loan.side);
     let note = loan.side.note();
     close_all(&note, &mut works.lanes, loan.lanes);
     close_more(&note, &mut works.stream, stream);
+    loan.side.told()
 }
 
 /// Hands on the first map's note, runs the feeders and the mapper's side beside the lanes, and then makes the closing look
@@ -310,7 +311,9 @@ fn drive_one<
         × (d : IsDriven lent.old.turns mapper.newest result.feed ends result.stream
         (lent_of S.told T.told K.told M.told lent.old stream.old)
         (lent_of S.told T.told K.told M.told lent.new stream.new))
-        × (result.feed ≢ FeedEnd.SinkFault → AreTold (mapper.newest ∷ d.rest) result.told) }
+        × (result.feed ≢ FeedEnd.SinkFault
+        → IfSome result.told (AreTold (mapper.newest ∷ d.rest))) }
+    ensures told { IsSome result.told }
     ensures untouched { drop (vec_len works.lanes) lent.new.lanes.now ≡ drop
         (vec_len works.lanes) lent.old.lanes.now }
     ensures stream { length (option_to_list result.stream) ≡ length
@@ -340,15 +343,14 @@ fn drive_one<
         },
         lanes: served,
     };
-    serve_all(rt, &mut works, &mut loan, stream);
+    let told = serve_all(rt, &mut works, &mut loan, stream);
     let end = loan.side.end;
-    let told = loan.side.told;
     mapper.close(rt);
     DriveEnd {
         feed: end,
         lanes: ends_of(&works.lanes),
         stream: end_of(&works.stream),
-        told,
+        told: Some(told),
     }
 }
 
@@ -389,7 +391,8 @@ fn drive_several<
         × (d : IsDriven lent.old.turns mapper.newest result.feed ends result.stream
         (lent_of S.told T.told K.told M.told lent.old stream.old)
         (lent_of S.told T.told K.told M.told lent.new stream.new))
-        × (result.feed ≢ FeedEnd.SinkFault → AreTold (mapper.newest ∷ d.rest) result.told) }
+        × (result.feed ≢ FeedEnd.SinkFault
+        → IfSome result.told (AreTold (mapper.newest ∷ d.rest))) }
     ensures untouched { drop (vec_len works.lanes) lent.new.lanes.now ≡ drop
         (vec_len works.lanes) lent.old.lanes.now }
     ensures stream { length (option_to_list result.stream) ≡ length
@@ -412,7 +415,6 @@ fn drive_several<
     let mut feeders = feeders;
     let mut taker = taker;
     let count = works.lanes.len();
-    let of_none = Told::of_none();
     let lanes = &mut *lent.lanes;
     let (served, _behind) = lanes.split_at_mut(count);
     let more = &mut *lent.more;
@@ -431,20 +433,18 @@ fn drive_several<
             maps: lent.maps,
             pace: lent.pace,
             end: FeedEnd::Ended,
-            told: of_none,
         },
         lanes: served,
     };
     serve_several(rt, &mut works, &mut loan, stream);
     let ended = loan.side.end;
-    let told = loan.side.told;
     all_back(&mut taker, first, feeders);
     mapper.close(rt);
     DriveEnd {
         feed: ended,
         lanes: ends_of(&works.lanes),
         stream: end_of(&works.stream),
-        told,
+        told: None,
     }
 }
 
@@ -485,7 +485,7 @@ fn drive_with<
         × (d : IsDriven lent.old.turns mapper.newest r.feed ends r.stream
         (lent_of S.told T.told K.told M.told lent.old stream.old)
         (lent_of S.told T.told K.told M.told lent.new stream.new))
-        × (r.feed ≢ FeedEnd.SinkFault → AreTold (mapper.newest ∷ d.rest) r.told)) }
+        × (r.feed ≢ FeedEnd.SinkFault → IfSome r.told (AreTold (mapper.newest ∷ d.rest)))) }
     ensures untouched { drop (vec_len works.lanes) lent.new.lanes.now ≡ drop
         (vec_len works.lanes) lent.old.lanes.now }
     ensures stream { IfOk result
@@ -572,7 +572,9 @@ pub fn drive<
         × (d : IsDriven lent.old.turns crew.mapper.newest r.feed ends r.stream
         (lent_of S.told T.told K.told M.told lent.old stream.old)
         (lent_of S.told T.told K.told M.told lent.new stream.new))
-        × (r.feed ≢ FeedEnd.SinkFault → AreTold (crew.mapper.newest ∷ d.rest) r.told)) }
+        × (r.feed ≢ FeedEnd.SinkFault
+        → IfSome r.told (AreTold (crew.mapper.newest ∷ d.rest)))) }
+    ensures told { lent.old.more.now ≡ [] → IfOk result (λ r. IsSome r.told) }
     ensures untouched { drop (vec_len crew.viewers) lent.new.lanes.now ≡ drop
         (vec_len crew.viewers) lent.old.lanes.now }
     ensures stream { IfOk result

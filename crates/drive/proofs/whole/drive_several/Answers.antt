@@ -1,4 +1,4 @@
-use Rattle.std.proofs.Common.{rules, ◌≡◌, ◌∙◌, ◌++◌, [], All, length, map, refl, ap, sym, subst, vec_len, ◌≢◌, ◌∷◌, List}
+use Rattle.std.proofs.Common.{rules, ◌≡◌, ◌∙◌, ◌++◌, [], All, length, map, refl, ap, sym, subst, vec_len, ◌≢◌, ◌∷◌, List, ℕ}
 use Rattle.demand_feed.specs.declared.run.FeedEnd.TheVariants.{SinkFault}
 use Rattle.published_map.specs.Version.{Version}
 use Rattle.mapper.specs.Notes.{AreTold}
@@ -50,24 +50,18 @@ returns-clause-driven g c =
     let pace : c.lent-1.given.0 ≡ c.serve_several.new.loan.side.pace.now = search rules in
     let lanes : c.served-1.given.0 ≡ c.serve_several.new.loan.lanes.now = search rules in
     let run = several (arc_value c.args.queue.desk.topology) c.args.mapper.newest.plan c.args.queue.desk.turns g.T.Source.told g.N.Numbers.groups g.N.Numbers.nodes (g.S.Source.told c.args.lent.now.feed.now) (g.S.Source.told c.serve_several.new.loan.readers.feed.now) _ _ c.args.lent.now.more.now c.serve_several.new.loan.more.now c.args.queue.feeders.items c.serve_several.new.loan.readers.feeders.now.items c.args.queue.taker c.taker-2-1.given.0 c.serve_several.new.loan.side.taker.now _ _ _ c.requires.queue.topology taker s.worked.queue.1 c.requires.queue.taker c.requires.queue.first c.requires.queue.feeders s.first s.sent c.all_back.ensures.taken (rw (sym first) c.all_back.ensures.first) (rw (sym feeders) c.all_back.ensures.begins) s.worked.run s.worked.merged in
-    let driven : (d : IsDriven c.args.queue.desk.turns c.args.mapper.newest c.serve_several.new.loan.side.end (map (λ w. w.ended) c.serve_several.new.works.lanes.items) c.end_of.result
+    let driven : IsDriven c.args.queue.desk.turns c.args.mapper.newest c.serve_several.new.loan.side.end (map (λ w. w.ended) c.serve_several.new.works.lanes.items) c.end_of.result
     (record { feed = g.S.Source.told c.args.lent.now.feed.now; more = map g.T.Source.told c.args.lent.now.more.now; out = g.K.Sink.told c.args.lent.now.out.now; maps = g.K.Sink.told c.args.lent.now.maps.now; pace = g.M.Pace.told c.args.lent.now.pace.now; lanes = c.args.lent.now.lanes.now; stream = c.args.stream.now })
-    (record { feed = g.S.Source.told c.serve_several.new.loan.readers.feed.now; more = map g.T.Source.told c.serve_several.new.loan.more.now; out = g.K.Sink.told c.serve_several.new.loan.side.out.now; maps = g.K.Sink.told c.serve_several.new.loan.side.maps.now; pace = g.M.Pace.told c.serve_several.new.loan.side.pace.now; lanes = (c.serve_several.new.loan.lanes.now ++ c.split_at_mut-served.result.1.now); stream = c.serve_several.new.stream })) × (c.serve_several.new.loan.side.end ≢ SinkFault → AreTold (c.args.mapper.newest ∷ d.rest) c.serve_several.new.loan.side.told) = (
-      record {
-        rest = s.done.0;
-        newest = c.serve_several.new.loan.side.mapper.now.newest;
-        feed = are_fed _ _ _ _ _ _ _ _ _ (some_told g.T.Source.told c.args.lent.now.more.now c.requires.several) (together_over _ _ _ _ _ _ _ _ _ _ _ _ _ _ _ _ _ _ _ opened s.done.1 run.fed);
-        goes_on = feeds_go_on _ _ _ _ _ c.args.mapper.newest s.done.0 s.worked.run refl opened s.done.1 s.history;
-        lanes = are_done_in (λ w. w.ended) _ _ _ _ _ _ _ _ c.split_at_mut-served.ensures.value s.done.2.0;
-        stream = ended_as _ _ _ _ _ _ _ _ _ s.done.2.1 (length-map _ _ ∙ search rules) c.end_of.ensures;
-      },
-      (λ whole. subst (λ (h : List Version). AreTold h c.serve_several.new.loan.side.told) s.done.1 (s.worked.announced (ap length opened) whole)),
-    ) in (
-      map (λ w. w.ended) c.serve_several.new.works.lanes.items,
-      length-map _ _ ∙ size,
-      c.ends_of.ensures,
-      rw (sym c.requires.turns.1, feed, more, out, maps, pace, lanes) driven,
-    )
+    (record { feed = g.S.Source.told c.serve_several.new.loan.readers.feed.now; more = map g.T.Source.told c.serve_several.new.loan.more.now; out = g.K.Sink.told c.serve_several.new.loan.side.out.now; maps = g.K.Sink.told c.serve_several.new.loan.side.maps.now; pace = g.M.Pace.told c.serve_several.new.loan.side.pace.now; lanes = (c.serve_several.new.loan.lanes.now ++ c.split_at_mut-served.result.1.now); stream = c.serve_several.new.stream }) =
+    record {
+      rest = s.done.0;
+      newest = c.serve_several.new.loan.side.mapper.now.newest;
+      feed = are_fed _ _ _ _ _ _ _ _ _ (some_told g.T.Source.told c.args.lent.now.more.now c.requires.several) (together_over _ _ _ _ _ _ _ _ _ _ _ _ _ _ _ _ _ _ _ opened s.done.1 run.fed);
+      goes_on = feeds_go_on _ _ _ _ _ c.args.mapper.newest s.done.0 s.worked.run refl opened s.done.1 s.history;
+      lanes = are_done_in (λ w. w.ended) _ _ _ _ _ _ _ _ c.split_at_mut-served.ensures.value s.done.2.0;
+      stream = ended_as _ _ _ _ _ _ _ _ _ s.done.2.1 (length-map _ _ ∙ search rules) c.end_of.ensures;
+    } in
+    rw (sym c.requires.turns.1, feed, more, out, maps, pace, lanes) (map (λ w. w.ended) c.serve_several.new.works.lanes.items, length-map _ _ ∙ size, c.ends_of.ensures, driven, λ whole. tt)
 
 pub returns-clause-counted : goal.returns-clause-counted
 returns-clause-counted g c =
