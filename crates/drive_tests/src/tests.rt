@@ -280,7 +280,7 @@ fn ends_so(end: DriveEnd, ended: Ended, count: usize, maps: u64) -> bool {
     end.feed == FeedEnd::Ended
         && end.lanes == lanes_by(ended, count)
         && end.stream.is_none()
-        && end.told.count() == maps
+        && matches!(end.told, Some(told) if told.count() == maps)
 }
 
 /// How one lane ended, and how many datagrams it took and answered.
