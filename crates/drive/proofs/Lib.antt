@@ -1,4 +1,3 @@
-mod Told
 pub mod Joined
 pub mod Together
 pub mod Holding

@@ -1,5 +1,4 @@
 pub mod LimitsAre
-mod Loaded
 pub mod Ports
 pub mod Puts
 pub mod Leasts

@@ -3,6 +3,7 @@ ghost use Rattle.std.specs.Prelude.{◌≡◌, ◌≤◌, ◌∷◌, [], length,
 ghost use Rattle.glb.specs.Commands.{service_asked};
 ghost use Rattle.glb.specs.Starting.{HasNamed, HasOpened, IsStart, IsStreamStart};
 ghost use Rattle.glb.specs.Words.{given};
+ghost use Rattle.drive.specs.Told.{feed_told};
 
 use crate::words::Service;
 use addr_text::Listen;
@@ -71,8 +72,14 @@ fn open_feed<N: NamedSource>(feeds: &mut [N], name: &str) -> Opening
     requires { length feeds.old ≡ 1 }
     ensures same { length feeds.new ≡ length feeds.old }
     ensures named { HasNamed (name.now ∷ []) result
-        (map N.told feeds.old)
-        (map N.told feeds.new) }
+        (record {
+          feeds = map (feed_told N.told) feeds.old;
+          opens = map N.opens feeds.old;
+        })
+        (record {
+          feeds = map (feed_told N.told) feeds.new;
+          opens = map N.opens feeds.new;
+        }) }
 {
     feeds[0].open(name)
 }
@@ -82,8 +89,14 @@ pub fn open_feeds<N: NamedSource>(feeds: &mut [N], names: &[Option<&str>]) -> Op
     requires { length names.now ≤ length feeds.old }
     ensures same { length feeds.new ≡ length feeds.old }
     ensures named { HasNamed (given (map (option_map (λ n. n.now)) names.now)) result
-        (map N.told feeds.old)
-        (map N.told feeds.new) }
+        (record {
+          feeds = map (feed_told N.told) feeds.old;
+          opens = map N.opens feeds.old;
+        })
+        (record {
+          feeds = map (feed_told N.told) feeds.new;
+          opens = map N.opens feeds.new;
+        }) }
 {
     let Some((first, rest)) = names.split_first() else {
         return Opening::Ready;
@@ -114,16 +127,24 @@ pub fn start_lanes<N: NamedSource, K: Sink, P: Port, Q: Streams, G: Gate, D: Doo
     ensures feeds { length feeds.new ≡ length feeds.old }
     ensures start { IsStart (service_asked service.now) text.now result
         (record {
-          more = map N.told feeds.old;
-          maps = K.told maps.old;
+          maps = (K.told maps.old).past;
+          maps_faults = (K.told maps.old).faults;
           lanes = lanes.old;
           stream = stream.old;
+          named = record {
+            feeds = map (feed_told N.told) feeds.old;
+            opens = map N.opens feeds.old;
+          };
         })
         (record {
-          more = map N.told feeds.new;
-          maps = K.told maps.new;
+          maps = (K.told maps.new).past;
+          maps_faults = (K.told maps.new).faults;
           lanes = lanes.new;
           stream = stream.new;
+          named = record {
+            feeds = map (feed_told N.told) feeds.new;
+            opens = map N.opens feeds.new;
+          };
         }) }
 {
     if let Opening::Failed = open_ports(lanes, service.workers, &service.listen) {

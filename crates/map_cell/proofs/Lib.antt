@@ -3,4 +3,3 @@ pub mod Adding
 pub mod Steps
 pub mod Shown
 pub mod Counts
-pub mod Given

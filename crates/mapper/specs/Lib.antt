@@ -7,9 +7,7 @@ pub mod Currents
 pub mod Scenes
 pub mod Feeding
 pub mod Coming
-pub mod Deeds
-pub mod Lending
-pub mod Desks
+pub mod Runners
 pub mod Notes
 pub mod Laws
 pub mod Items

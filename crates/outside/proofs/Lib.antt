@@ -1,3 +1,2 @@
 mod LimitsAre
 mod Pieces
-mod Shelves

@@ -1,10 +1,9 @@
 pub mod Calls
 pub mod Gate
 pub mod Line
-pub mod Notes
+pub mod Names
 pub mod Pace
 pub mod Port
-pub mod Shelf
 pub mod Sink
 pub mod Source
 pub mod Streams

@@ -1,7 +1,9 @@
+pub mod Sessions
 pub mod Known
 pub mod Said
 pub mod Taken
-pub mod Took
+pub mod Turned
+pub mod Loop
 pub mod Talks
 pub mod Whole
 pub mod Final

@@ -28,7 +28,8 @@ pub(crate) struct LaneTalk {
 
 /// Before the first conversation.
 pub(crate) fn no_talk() -> LaneTalk
-    ensures { talk_state_of result ≡ no_talk }
+    ensures { (result.is_open ≡ false)
+        × (result.peer ≡ no_talk.peer) × (result.held.items ≡ []) × (result.quiets ≡ 0) }
 {
     LaneTalk {
         is_open: false,

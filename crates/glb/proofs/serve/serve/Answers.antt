@@ -27,7 +27,7 @@ returns-in-Ok-clause-promised g c =
 
 pub returns-in-Err-clause-promised : goal.returns-in-Err-clause-promised
 returns-in-Err-clause-promised g c = promised _ _ _ _ _
-    (inl (record { run = stopped_run _ _ _ _ _ c.in-Err.ensures.said c.finish.ensures.run; rest = refl }))
+    (inl (record { run = stopped_run _ _ _ _ _ c.in-Err.ensures.said c.finish.ensures.run; rest = record { lent = refl; rest = refl } }))
     (search rules)
     (search rules)
     (record {

@@ -1,0 +1,11 @@
+pub mod Totals
+pub mod Cover
+pub mod Full
+pub mod Join
+pub mod Groups
+pub mod First
+pub mod Refuses
+pub mod Next
+pub mod Free
+pub mod Best
+pub mod Nearest

@@ -1,4 +1,0 @@
-pub mod Below
-pub mod Circles
-pub mod Nearest
-pub mod Laws
