@@ -98,7 +98,7 @@ given_later name limit bytes (Some x) (Some y) (Some z) one (made, more) =
     (subst (λ (ls : List Load). Contains ls a) (sym (made_between (a ∷ made) x z (made_then (a ∷ []) made x y z first more))) (Contains-append_left (a ∷ []) made a (0, omega arith, refl)), one.held)
 
 -- and in that of the load alone
-given_here : (name : List ℕ) (limit : ℕ) (bytes : List ℕ) (s t : Option Shelved) → BothTell s t (IsGiven name limit bytes) → HaveGiven (files_between s t) name limit bytes
+pub given_here : (name : List ℕ) (limit : ℕ) (bytes : List ℕ) (s t : Option Shelved) → BothTell s t (IsGiven name limit bytes) → HaveGiven (files_between s t) name limit bytes
 given_here name limit bytes s t one = given_later name limit bytes s t t one (same t)
   where
     same : (t : Option Shelved) → Grows t t

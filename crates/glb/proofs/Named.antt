@@ -80,9 +80,9 @@ stand_on before mid after h k = k ∙ h
 -- an opening notes a name, and leaves what was read
 same_given : (turns : ℕ) (name : List ℕ) (x y z : Option Fed) → BothTell x y (IsNamed name opening.Ready) → HasGiven turns y z → HasGiven turns x z
 same_given turns name None None z t h = h
-same_given turns name (Some b) (Some c) None t (pieces, told, rest) = absurd told
-same_given turns name (Some b) (Some c) (Some d) t (pieces, read, rest) =
-    (pieces, subst (λ (f : Fed). HasRead pieces (record f { names = d.names }) d) t read, rest)
+same_given turns name (Some b) (Some c) None t (pieces, told, quiet, count) = absurd told
+same_given turns name (Some b) (Some c) (Some d) t (pieces, read, quiet, count) =
+    (pieces, subst (λ (f : Fed). HasRead pieces (record f { names = d.names }) d) t read, quiet, count)
 same_given turns name None (Some c) z t h = absurd t
 same_given turns name (Some b) None z t h = absurd t
 

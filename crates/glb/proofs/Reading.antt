@@ -18,12 +18,12 @@ use Rattle.map_text.specs.Reading.{Mapped}
 use Rattle.map_text.specs.Writing.{mapped}
 use Rattle.glb.specs.Loads.{AreLoadsOf, DueLoad, Files, files_between}
 use Rattle.glb.specs.Outcome.{Outcome}
-use Rattle.glb.specs.Files.{Kind, Reads, changes_file, loads_from, map_file, only, refused, said, topology_file}
+use Rattle.glb.specs.Files.{IsRefused, Kind, Reads, Says, changes_file, loads_from, map_file, only, refused, said, topology_file}
 use Rattle.glb.specs.Ending.{AreBytes, EndsBy, IsEnd, IsFaulty, IsGiven, IsReading, IsRefusedBy, IsSaidBy, IsTooLong, StopsBy}
 use Rattle.glb.specs.declared.ending.Report.{Report}
 use Rattle.glb.specs.declared.ending.Stop.{Stop}
 use Rattle.glb.specs.declared.ending.Stop.TheVariants as stop
-use Rattle.glb.proofs.Loads.{given_wider, grows, none_held, none_made, last_ends, stopped, stopped_only, stops_weaker, tell_weaker, then_ends}
+use Rattle.glb.proofs.Loads.{given_here, given_wider, grows, none_held, none_made, last_ends, stopped, stopped_only, stops_weaker, tell_weaker, then_ends}
 
 -- a load that gave octets
 given_of : (name : List ℕ) (limit : ℕ) (bytes : List ℕ) (octets : Option (List ℕ)) (x y : Shelved) → octets ≡ Some bytes → y.loads ≡ x.loads ++ record { name = name; limit = limit; octets = octets } ∷ [] → y.holds ≡ x.holds
@@ -174,3 +174,11 @@ pub stopped_second : (topology map changes : List ℕ) (Next : Plan → Mapped �
     → IsReading topology_file (λ (t : Plan). t) topology before mid (Ok t) → IsReading (map_file t) mapped map mid after (Err s) → Err s ≡ e → EndsOverAll topology map changes Next before after e
 stopped_second topology map changes Next before mid after t s e first second is = over_first topology map changes Next before mid after t e first
     (stopped (map_file t) mapped map (λ m. only (changes_file t) changes) (λ m. Reads (changes_file t) (files_between mid.past after.past) changes (Next t m)) mid after s e second is)
+
+-- what a load said, as what the loads of its run say
+pub said_here : {T : Type 0} (kind : Kind T) (name : List ℕ) (s t : Option Shelved) (x : T) → IsSaidBy kind name s t x → Says kind (files_between s t) name x
+said_here kind name s t x h = (h.0, given_here name kind.limit h.0 s t h.1, h.2)
+
+-- the same where it is refused
+pub faulty_here : {T : Type 0} (kind : Kind T) (name : List ℕ) (s t : Option Shelved) (e : Stop) → StopsBy (IsFaulty kind name s t) e → StopsBy (IsRefused kind (files_between s t) name) e
+faulty_here kind name s t e h = stops_weaker (IsFaulty kind name s t) (IsRefused kind (files_between s t) name) e (λ due f. (f.0, f.1, given_here name kind.limit f.0 s t f.2, f.3, f.4)) h
