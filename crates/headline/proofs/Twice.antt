@@ -1,5 +1,5 @@
 -- Two runs over the same octets.
-use Rattle.std.proofs.Common.{◌≡◌, inl, inr, ℕ, zero, suc, List, [], ◌∷◌, length, map, drop, take, Option, None, Some, Result, Ok, refl, ap, sym, subst, ◌∙◌}
+use Rattle.std.proofs.Common.{◌≡◌, inl, inr, ℕ, zero, suc, List, [], ◌∷◌, length, map, drop, take, Option, None, Some, Result, Ok, refl, ap, sym, subst, ◌∙◌, arith}
 use Rattle.std.specs.Prelude.{Contains}
 use Rattle.std.proofs.Math.Seq.{drop-append_seam}
 use Rattle.std.specs.List.{concat}
@@ -21,14 +21,14 @@ use Rattle.headline.specs.Runs.{Puts, PutsOut}
 use Rattle.headline.proofs.Serving.{tells_so}
 
 same_octets : (name : List ℕ) (limit : ℕ) (a b : List ℕ) → load_with name limit a ≡ load_with name limit b → a ≡ b
-same_octets name limit a b h = cc
+same_octets name limit a b h = same_Some a b (ap (λ (l : Load). l.octets) h)
 
 -- of a run that loads one file, once at most, each load gave the same octets
 one_load : (xs : List Load) (kind : Kind Plan) (name a b : List ℕ) (k : ℕ) → map due_of xs ≡ take k (load_of kind name ∷ []) → Contains xs (load_with name kind.limit a) → Contains xs (load_with name kind.limit b) → a ≡ b
-one_load [] kind name a b k few x y = absurd x
-one_load (z ∷ []) kind name a b k few (inl x) (inl y) = same_octets name kind.limit a b (x ∙ sym y)
-one_load (z ∷ []) kind name a b k few (inl x) (inr y) = absurd y
-one_load (z ∷ []) kind name a b k few (inr x) y = absurd x
+one_load [] kind name a b k few (i, within, at) y = absurd (omega (arith, within))
+one_load (z ∷ []) kind name a b k few (zero, within, at) (zero, also, by) = same_octets name kind.limit a b (sym at ∙ by)
+one_load (z ∷ []) kind name a b k few (suc i, within, at) y = absurd (omega (arith, within))
+one_load (z ∷ []) kind name a b k few (zero, within, at) (suc j, also, by) = absurd (omega (arith, also))
 one_load (z ∷ w ∷ zs) kind name a b zero few x y = absurd (cc)
 one_load (z ∷ w ∷ zs) kind name a b (suc k) few x y = absurd (more k few)
   where
@@ -40,9 +40,9 @@ one_load (z ∷ w ∷ zs) kind name a b (suc k) few x y = absurd (more k few)
 loads_are : (before after : Option Shelved) (files : Files) (due : List Load → List DueLoad) → BothTell before after (AreLoadsOf due) → files_between before after ≡ Some files → (k : ℕ) × (map due_of files.loads ≡ take k (due files.loads))
 loads_are None after files due told is = absurd (cc)
 loads_are (Some b) None files due told is = absurd told
-loads_are (Some b) (Some c) files due (made, are, k, few) is =
+loads_are (Some b) (Some c) files due (made, are, begun) is =
     let same : files.loads ≡ made = sym (ap (λ (f : Files). f.loads) (same_Some _ files is)) ∙ ap (drop (length b.loads)) are.loads ∙ drop-append_seam b.loads made in
-    (k, subst (λ (xs : List Load). map due_of xs ≡ take k (due xs)) (sym same) few)
+    (begun.0, subst (λ (xs : List Load). map due_of xs ≡ take begun.0 (due xs)) (sym same) begun.1)
 
 -- what a topology's file says is what the octets say that a load of the run gave
 said_is : (before after : Option Shelved) (files : Files) (name octets : List ℕ) (t : Plan) → BothTell before after (AreLoadsOf (only topology_file name)) → files_between before after ≡ Some files
