@@ -92,7 +92,8 @@ fn pool_for_unit(version: &MapVersion, unit: GroupId, draw: u64) -> Option<NodeI
 fn pool_for_service(version: &MapVersion, group: GroupId, service: u8, draw: u64) -> Option<NodeId>
     requires version { IsVersion version.now }
     requires group { group.0 < length version.now.market.groups }
-    ensures exact { option_map (λ n. n.0) result ≡ pool_for_unit version.now draw (unit_of version.now.plan group.0 service) }
+    ensures exact { option_map (λ n. n.0) result
+        ≡ pool_for_unit version.now draw (unit_of version.now.plan group.0 service) }
     ensures there { IfSome result (λ n. n.0 < length version.now.plan.market.nodes) }
 {
     pool_for_unit(version, version.unit_of(group, service), draw)
@@ -113,7 +114,8 @@ fn answered_kind(kind: u16) -> Option<u16>
 fn at_pool<'v>(version: &'v MapVersion, pool: NodeId, kind: u16, scope: u8) -> Outcome<'v>
     requires pool { pool.0 < length version.now.plan.market.nodes }
     requires kind { (kind ≡ 1) ⊎ (kind ≡ 28) }
-    ensures exact { outcome_view result ≡ of_addresses kind (addresses_of version.now.plan pool.0 kind) scope }
+    ensures exact { outcome_view result
+        ≡ of_addresses kind (addresses_of version.now.plan pool.0 kind) scope }
     ensures short { (size : ℕ) → size ≤ 128 → IsShort size result }
 {
     let addresses = version.addresses(pool, kind);
@@ -133,7 +135,8 @@ fn at_service<'v>(
     service: u8,
 ) -> Outcome<'v>
     requires { IsVersion version.now }
-    ensures exact { outcome_view result ≡ at_service version.now (request_view request.now) from draw service }
+    ensures exact { outcome_view result
+        ≡ at_service version.now (request_view request.now) from draw service }
     ensures short { (size : ℕ) → size ≤ 128 → IsShort size result }
 {
     let Some(kind) = answered_kind(request.query.kind) else {
@@ -187,7 +190,8 @@ pub(crate) fn decide<'v>(
     draw: u64,
 ) -> Outcome<'v>
     requires { IsVersion version.now }
-    ensures exact { outcome_view result ≡ outcome_of version.now (request_view request.now) from draw }
+    ensures exact { outcome_view result
+        ≡ outcome_of version.now (request_view request.now) from draw }
     ensures short { IsShort (length request.now.query.now.name.now) result }
 {
     match request.fault {

@@ -43,7 +43,8 @@ fn write_reply(
     requires version { IsVersion version.now }
     requires empty { out.old.items ≡ [] }
     requires name { IsName query.name.now }
-    ensures exact { out.new.items ≡ reply_to_query version.now from (request_of (asked query.entry)) draw way }
+    ensures exact { out.new.items ≡ reply_to_query version.now from (request_of (asked query.entry))
+        draw way }
     ensures short { length out.new.items ≤ limit_of way (asked query.entry).opt }
     ensures room { length out.new.items ≤ longest_reply }
 {
@@ -79,7 +80,8 @@ pub fn reply(
 ) -> Answer
     requires { IsVersion version.now }
     ensures reply { Replies result out.new.items (reply_of version.now from octets.now draw way) }
-    ensures short { IfSome (reply_of version.now from octets.now draw way) (λ r. length r ≤ limit_for way (datagram_of octets.now)) }
+    ensures short { IfSome (reply_of version.now from octets.now draw way) (λ r. length r
+        ≤ limit_for way (datagram_of octets.now)) }
     ensures room { length out.new.items ≤ longest_reply }
     ensures lookup { (a : Addr) → IsAddress a → IsLookedUp version.now a }
 {
@@ -97,7 +99,8 @@ pub fn reply(
 /// Whether a datagram has no reply, whatever the version, the sender and the draw: it is shorter than a header or too long, or a response. Its length and its third octet are looked at alone.
 pub fn silent(octets: &[u8]) -> bool
     ensures exact { result ≡ is_silent octets.now }
-    ensures always { (v : Version) (from : Addr) (draw : ℕ) (way : Way) → IsTrue result ↔ (reply_of v from octets.now draw way ≡ None) }
+    ensures always { (v : Version) (from : Addr) (draw : ℕ) (way : Way) → IsTrue result
+        ↔ (reply_of v from octets.now draw way ≡ None) }
 {
     is_silent(octets)
 }

@@ -28,7 +28,8 @@ use topology_text::Zone;
 /// Writes the zone's SOA record.
 fn write_soa(out: &mut ReplyBuffer, zone: &Zone, owner: u16, ttl: u32)
     requires zone { IsZone zone.now }
-    requires room { HasRoom (array_vec_len out.old) (length (spec.resource (spec.soa zone.now owner ttl))) }
+    requires room { HasRoom (array_vec_len out.old)
+        (length (spec.resource (spec.soa zone.now owner ttl))) }
     ensures { out.new.items ≡ out.old.items ++ spec.resource (spec.soa zone.now owner ttl) }
 {
     write_record(out, owner, SOA, ttl, zone.soa.as_slice());
@@ -36,8 +37,10 @@ fn write_soa(out: &mut ReplyBuffer, zone: &Zone, owner: u16, ttl: u32)
 
 /// Writes the records of name servers.
 fn write_servers(out: &mut ReplyBuffer, ttl: u32, servers: &[Name])
-    requires { HasRoom (array_vec_len out.old) (length (flat_map spec.resource (map (spec.server ttl) servers.now))) }
-    ensures { out.new.items ≡ out.old.items ++ flat_map spec.resource (map (spec.server ttl) servers.now) }
+    requires { HasRoom (array_vec_len out.old)
+        (length (flat_map spec.resource (map (spec.server ttl) servers.now))) }
+    ensures { out.new.items ≡ out.old.items
+        ++ flat_map spec.resource (map (spec.server ttl) servers.now) }
 {
     for server in servers {
         write_record(out, QUESTION_NAME, NS, ttl, server.wire());
@@ -46,7 +49,8 @@ fn write_servers(out: &mut ReplyBuffer, ttl: u32, servers: &[Name])
 
 /// Writes the record of an address.
 fn write_address(out: &mut ReplyBuffer, ttl: u32, kind: u16, address: Addr)
-    requires { HasRoom (array_vec_len out.old) (length (spec.resource (spec.address ttl kind address))) }
+    requires { HasRoom (array_vec_len out.old)
+        (length (spec.resource (spec.address ttl kind address))) }
     ensures { out.new.items ≡ out.old.items ++ spec.resource (spec.address ttl kind address) }
 {
     match address {
@@ -57,8 +61,10 @@ fn write_address(out: &mut ReplyBuffer, ttl: u32, kind: u16, address: Addr)
 
 /// Writes the records of addresses.
 fn write_addresses(out: &mut ReplyBuffer, ttl: u32, kind: u16, addresses: &[Addr])
-    requires { HasRoom (array_vec_len out.old) (length (flat_map spec.resource (map (spec.address ttl kind) addresses.now))) }
-    ensures { out.new.items ≡ out.old.items ++ flat_map spec.resource (map (spec.address ttl kind) addresses.now) }
+    requires { HasRoom (array_vec_len out.old)
+        (length (flat_map spec.resource (map (spec.address ttl kind) addresses.now))) }
+    ensures { out.new.items ≡ out.old.items
+        ++ flat_map spec.resource (map (spec.address ttl kind) addresses.now) }
 {
     for address in addresses {
         write_address(out, ttl, kind, *address);
@@ -68,8 +74,10 @@ fn write_addresses(out: &mut ReplyBuffer, ttl: u32, kind: u16, addresses: &[Addr
 /// Writes the records of a positive answer.
 fn write_records(out: &mut ReplyBuffer, zone: &Zone, records: &Records)
     requires zone { IsZone zone.now }
-    requires room { HasRoom (array_vec_len out.old) (length (flat_map spec.resource (spec.resources zone.now (records_view records.now)))) }
-    ensures { out.new.items ≡ out.old.items ++ flat_map spec.resource (spec.resources zone.now (records_view records.now)) }
+    requires room { HasRoom (array_vec_len out.old)
+        (length (flat_map spec.resource (spec.resources zone.now (records_view records.now)))) }
+    ensures { out.new.items ≡ out.old.items
+        ++ flat_map spec.resource (spec.resources zone.now (records_view records.now)) }
 {
     match records {
         Records::Soa => write_soa(out, zone, QUESTION_NAME, zone.ttl),
@@ -83,8 +91,10 @@ fn write_records(out: &mut ReplyBuffer, zone: &Zone, records: &Records)
 /// Writes the answers of a reply.
 pub(crate) fn write_answers(out: &mut ReplyBuffer, zone: &Zone, outcome: &Outcome)
     requires zone { IsZone zone.now }
-    requires room { HasRoom (array_vec_len out.old) (length (flat_map spec.resource (spec.answers zone.now (outcome_view outcome.now)))) }
-    ensures { out.new.items ≡ out.old.items ++ flat_map spec.resource (spec.answers zone.now (outcome_view outcome.now)) }
+    requires room { HasRoom (array_vec_len out.old)
+        (length (flat_map spec.resource (spec.answers zone.now (outcome_view outcome.now)))) }
+    ensures { out.new.items ≡ out.old.items
+        ++ flat_map spec.resource (spec.answers zone.now (outcome_view outcome.now)) }
 {
     match outcome {
         Outcome::BadVers | Outcome::Error(_) | Outcome::Negative(_) | Outcome::Truncated { .. } =>
@@ -97,8 +107,11 @@ pub(crate) fn write_answers(out: &mut ReplyBuffer, zone: &Zone, outcome: &Outcom
 pub(crate) fn write_authority(out: &mut ReplyBuffer, zone: &Zone, name: &[u8], outcome: &Outcome)
     requires zone { IsZone zone.now }
     requires name { length name.now ≤ LONGEST_NAME }
-    requires room { HasRoom (array_vec_len out.old) (length (flat_map spec.resource (spec.authority zone.now name.now (outcome_view outcome.now)))) }
-    ensures { out.new.items ≡ out.old.items ++ flat_map spec.resource (spec.authority zone.now name.now (outcome_view outcome.now)) }
+    requires room { HasRoom (array_vec_len out.old)
+        (length (flat_map spec.resource (spec.authority zone.now name.now
+        (outcome_view outcome.now)))) }
+    ensures { out.new.items ≡ out.old.items
+        ++ flat_map spec.resource (spec.authority zone.now name.now (outcome_view outcome.now)) }
 {
     match outcome {
         Outcome::BadVers
@@ -121,7 +134,8 @@ fn write_extension(
     scope: Option<u8>,
 )
     requires form { IfSome subnet IsSubnet }
-    requires room { HasRoom (array_vec_len out.old) (length (opt extended dnssec_ok (spec.repeated subnet scope))) }
+    requires room { HasRoom (array_vec_len out.old)
+        (length (opt extended dnssec_ok (spec.repeated subnet scope))) }
     ensures { out.new.items ≡ out.old.items ++ opt extended dnssec_ok (spec.repeated subnet scope) }
 {
     if let Some(subnet) = subnet
@@ -137,8 +151,12 @@ fn write_extension(
 /// Writes the OPT record of a reply, where the query has one.
 pub(crate) fn write_additional(out: &mut ReplyBuffer, request: &Request, outcome: &Outcome)
     requires form { IfSome request.now.subnet IsSubnet }
-    requires room { HasRoom (array_vec_len out.old) (length (spec.additional (option_map extension request.now.query.now.opt) request.now.subnet (outcome_view outcome.now))) }
-    ensures { out.new.items ≡ out.old.items ++ spec.additional (option_map extension request.now.query.now.opt) request.now.subnet (outcome_view outcome.now) }
+    requires room { HasRoom (array_vec_len out.old)
+        (length (spec.additional (option_map extension request.now.query.now.opt) request.now.subnet
+        (outcome_view outcome.now))) }
+    ensures { out.new.items ≡ out.old.items
+        ++ spec.additional (option_map extension request.now.query.now.opt) request.now.subnet
+        (outcome_view outcome.now) }
 {
     if let Some(opt) = request.query.opt {
         write_extension(

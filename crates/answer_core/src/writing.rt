@@ -31,7 +31,8 @@ pub(crate) fn write_full(out: &mut ReplyBuffer, zone: &Zone, request: &Request, 
     requires name { IsName request.now.query.now.name.now }
     requires form { IfSome request.now.subnet IsSubnet }
     requires few { IsFew outcome.now }
-    requires room { length (full zone.now (request_view request.now) (outcome_view outcome.now)) ≤ reply_size }
+    requires room { length (full zone.now (request_view request.now) (outcome_view outcome.now))
+        ≤ reply_size }
     ensures { out.new.items ≡ full zone.now (request_view request.now) (outcome_view outcome.now) }
 {
     let query = request.query;

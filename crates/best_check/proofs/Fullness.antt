@@ -5,7 +5,7 @@ use Rattle.map_model.specs.declared.lines.MapLine.{MapLine}
 use Rattle.map_model.specs.Market.{Market, IsMarket, capacity_of, parent_of}
 use Rattle.map_model.specs.Allocation.{is_under, load}
 use Rattle.map_model.proofs.Trees.{above_alone, above_parent, above_split, under_itself}
-use Rattle.circle_laws.specs.Nearest.{IsFirstFull}
+use Rattle.map_laws.specs.Nearest.{IsFirstFull}
 use Rattle.best_check.specs.Fullness.{FirstFull}
 use Rattle.best_check.proofs.Above.{IsAbove}
 

@@ -7,8 +7,8 @@ use Rattle.map_model.specs.declared.instance.NodeId.{NodeId}
 use Rattle.map_model.specs.declared.lines.MapLine.{MapLine}
 use Rattle.map_model.specs.Market.{Market, IsMarket, demand_of, is_pool_at, limit_of, pool_of}
 use Rattle.map_model.specs.Allocation.{IsOffer, placed}
-use Rattle.circle_laws.specs.Circles.{IsCircleFree, IsLastPlace, IsNextInLine}
-use Rattle.circle_laws.proofs.Nearest.{next_one}
+use Rattle.map_laws.specs.Circles.{IsCircleFree, IsLastPlace, IsNextInLine}
+use Rattle.map_laws.proofs.Nearest.{next_one}
 use Rattle.best_check.specs.declared.ranked.Ranked.{Ranked}
 use Rattle.best_check.specs.Leads.{AreLeads, FallAlong}
 use Rattle.best_check.specs.Tables.{IsNextAt}

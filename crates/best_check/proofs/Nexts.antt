@@ -8,9 +8,9 @@ use Rattle.map_model.proofs.Keys.{key_le_trans}
 use Rattle.map_model.proofs.Paths.{parent_there}
 use Rattle.map_model.proofs.Trees.{above_alone, above_parent, above_split, under_itself}
 use Rattle.best_laws.specs.Ahead.{IsRightMap}
-use Rattle.circle_laws.specs.Circles.{IsInLine, IsNextInLine, MakesRoom}
-use Rattle.circle_laws.specs.Nearest.{IsFirstFull}
-use Rattle.circle_laws.proofs.Nearest.{has_nearest, room_at, room_from}
+use Rattle.map_laws.specs.Circles.{IsInLine, IsNextInLine, MakesRoom}
+use Rattle.map_laws.specs.Nearest.{IsFirstFull}
+use Rattle.map_laws.proofs.Nearest.{has_nearest, room_at, room_from}
 use Rattle.best_check.specs.declared.ranked.Ranked.{Ranked}
 use Rattle.best_check.specs.Tables.{AreNextAt, AreRanked, IsBestBefore, IsEntry, IsNextAt, IsRanked, IsWaitingAt}
 use Rattle.best_check.proofs.Above.{from_above}

@@ -12,7 +12,7 @@ use Rattle.map_model.proofs.Paths.{pool_there}
 use Rattle.map_model.proofs.Trees.{above_le, under_there}
 use Rattle.evict.specs.Standing.{IsPastWanted, IsReady, Standing}
 use Rattle.best_laws.specs.Ahead.{IsRightMap}
-use Rattle.circle_laws.specs.Nearest.{IsFirstFull}
+use Rattle.map_laws.specs.Nearest.{IsFirstFull}
 use Rattle.best_check.specs.declared.ranked.Ranked.{Ranked}
 use Rattle.best_check.specs.Fullness.{FirstFull, IsFullTable}
 use Rattle.best_check.specs.Tables.{AreRanked, ArePastWanted, IsBefore, IsBestBefore, IsEntry, IsRanked, IsTable, IsWaitingAt}

@@ -4,7 +4,7 @@ use Rattle.map_model.specs.declared.instance.NodeId.{NodeId}
 use Rattle.map_model.specs.declared.lines.MapLine.{MapLine}
 use Rattle.map_model.specs.Market.{Market, capacity_of}
 use Rattle.map_model.specs.Allocation.{is_under, load}
-use Rattle.circle_laws.specs.Nearest.{IsFirstFull}
+use Rattle.map_laws.specs.Nearest.{IsFirstFull}
 
 -- the full node nearest to a node, or none if no node of its path is full
 abbrev pub FirstFull : Market → List MapLine → ℕ → Option NodeId → Type 0

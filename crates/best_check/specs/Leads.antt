@@ -4,7 +4,7 @@ use Rattle.map_model.specs.declared.instance.NodeId.{NodeId}
 use Rattle.map_model.specs.declared.lines.MapLine.{MapLine}
 use Rattle.map_model.specs.Market.{Market, demand_of, limit_of, pool_of}
 use Rattle.map_model.specs.Allocation.{placed}
-use Rattle.circle_laws.specs.Circles.{IsLastPlace, IsNextInLine}
+use Rattle.map_laws.specs.Circles.{IsLastPlace, IsNextInLine}
 
 -- each node leads to one of them, or to none
 abbrev pub LeadInside : List (Option NodeId) → Type 0

@@ -5,8 +5,8 @@ use Rattle.map_model.specs.Market.{Market, key_of, limit_of, pool_of}
 use Rattle.map_model.specs.Allocation.{IsOffer, key_le}
 use Rattle.evict.specs.Standing.{IsPastWanted, Standing}
 use Rattle.best_laws.specs.Ahead.{IsRightMap}
-use Rattle.circle_laws.specs.Circles.{IsInLine, IsNextInLine, MakesRoom}
-use Rattle.circle_laws.specs.Nearest.{IsFirstFull}
+use Rattle.map_laws.specs.Circles.{IsInLine, IsNextInLine, MakesRoom}
+use Rattle.map_laws.specs.Nearest.{IsFirstFull}
 use Rattle.best_check.specs.declared.ranked.Ranked.{Ranked}
 
 -- each pointer is the number of its group's wanted places

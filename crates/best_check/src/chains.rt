@@ -71,7 +71,8 @@ fn number_chain(leads: &[Option<NodeId>], numbers: &mut [u32], start: NodeId, fi
 fn numbers_of(alloc: Global, leads: &[Option<NodeId>]) -> Result<Option<Vec<u32>>, NoMemory>
     requires few { length leads.now < 2 ^ 32 }
     requires inside { LeadInside leads.now }
-    ensures { IfOk result (λ found. IfSome found (λ numbers. length numbers.items ≡ length leads.now)) }
+    ensures { IfOk result (λ found. IfSome found (λ numbers. length numbers.items
+        ≡ length leads.now)) }
 {
     let mut numbers = vec![in alloc; 0; leads.len()]?;
     for n in 0..leads.len() {

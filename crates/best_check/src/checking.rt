@@ -37,7 +37,8 @@ fn leads(alloc: Global, instance: &Instance, state: &State) -> Result<Vec<Option
 /// `NoMemory`.
 pub fn is_best(alloc: Global, instance: &Instance, state: &State) -> Result<bool, NoMemory>
     requires ready { IsReady instance.now state.now }
-    requires past { (g : ℕ) → g < length instance.now.groups → IsPastWanted instance.now state.now.lines g (slice_index state.now.pointers g) }
+    requires past { (g : ℕ) → g < length instance.now.groups
+        → IsPastWanted instance.now state.now.lines g (slice_index state.now.pointers g) }
     ensures { IfOk result (λ best. best ≡ true → IsGroupBest instance.now state.now.lines) }
 {
     // Tells the prover that this is an instance.

@@ -4,7 +4,7 @@ ghost use Rattle.std.specs.Prelude.{◌≡◌, ℕ, ◌<◌, Some, length, IfOk,
 ghost use Rattle.map_model.specs.Market.{demand_of, pool_of};
 ghost use Rattle.map_model.specs.Allocation.{IsOffer, placed};
 ghost use Rattle.evict.specs.Standing.{IsReady};
-ghost use Rattle.circle_laws.specs.Circles.{IsLastPlace};
+ghost use Rattle.map_laws.specs.Circles.{IsLastPlace};
 ghost use Rattle.best_check.specs.Leads.{AreLeads};
 ghost use Rattle.best_check.specs.Tables.{AreNextAt};
 
@@ -35,7 +35,9 @@ fn leads_to(instance: &Instance, state: &State, next: Option<Ranked>) -> Option<
     requires ready { IsReady instance.now state.now }
     requires offer { IfSome next (λ o. IsOffer instance.now o.offer.group.0 o.offer.place) }
     ensures inside { IfSome result (λ p. p.0 < length instance.now.nodes) }
-    ensures leads { IfSome next (λ o. (j : ℕ) → placed state.now.lines o.offer.group.0 ≡ demand_of instance.now o.offer.group.0 → IsLastPlace state.now.lines o.offer.group.0 j → result ≡ Some (record { 0 = pool_of instance.now o.offer.group.0 j })) }
+    ensures leads { IfSome next (λ o. (j : ℕ) → placed state.now.lines o.offer.group.0
+        ≡ demand_of instance.now o.offer.group.0 → IsLastPlace state.now.lines o.offer.group.0 j
+        → result ≡ Some (record { 0 = pool_of instance.now o.offer.group.0 j })) }
 {
     let group = next?.offer.group;
     if state.free(group) > 0 {

@@ -9,7 +9,8 @@ use map_model::{Instance, NodeId};
 pub fn entry_above<T: Copy>(instance: &Instance, entries: &[Option<T>], node: NodeId) -> Option<T>
     requires node { node.0 < length instance.now.nodes }
     requires above { length entries.now ≡ node.0 }
-    ensures { MatchOption (parent_of instance.now node.0) (result ≡ None) (λ p. (p.0 < node.0) × (result ≡ slice_index_or entries.now p.0 None)) }
+    ensures { MatchOption (parent_of instance.now node.0) (result ≡ None) (λ p. (p.0 < node.0)
+        × (result ≡ slice_index_or entries.now p.0 None)) }
 {
     // Tells the prover that parents have lower numbers.
     let _count = instance.nodes();

@@ -37,7 +37,8 @@ fn is_refused(instance: &Instance, state: &State, bars: &[Option<Key>], offer: O
     requires open { IsOpen instance.now state.now }
     requires bars { IsBarTable instance.now state.now.lines bars.now }
     requires offer { IsOffer instance.now offer.group.0 offer.place }
-    ensures { OnTrue result (IsSome (refuser_of instance.now state.now.lines offer.group.0 offer.place)) }
+    ensures { OnTrue result (IsSome (refuser_of instance.now state.now.lines offer.group.0
+        offer.place)) }
 {
     let key = instance.key(offer);
     is_behind(bars[key.pool.0 as usize], key) || is_at_limit(instance, state, offer)
@@ -62,7 +63,8 @@ fn are_refused(instance: &Instance, state: &State, bars: &[Option<Key>], group: 
 fn holds_at_pointer(instance: &Instance, state: &State, group: GroupId) -> bool
     requires open { IsOpen instance.now state.now }
     requires group { group.0 < length instance.now.groups }
-    ensures { OnTrue result (0 < amount_at state.now.lines group.0 (slice_index state.now.pointers group.0)) }
+    ensures { OnTrue result (0 < amount_at state.now.lines group.0
+        (slice_index state.now.pointers group.0)) }
 {
     let place = state.pointer(group);
     place < instance.list_len(group) && state.units(Offer { group, place }) > 0
@@ -102,7 +104,8 @@ fn is_group_resumable(
 pub fn is_resumable(alloc: Global, instance: &Instance, state: &State) -> Result<bool, NoMemory>
     requires { IsOpen instance.now state.now }
     ensures ready { IfOk result (λ yes. yes ≡ true → IsReady instance.now state.now) }
-    ensures wanted { IfOk result (λ yes. yes ≡ true → (g k : ℕ) → IsOffer instance.now g k → k < slice_index state.now.pointers g → is_wanted instance.now state.now.lines g k ≡ true) }
+    ensures wanted { IfOk result (λ yes. yes ≡ true → (g k : ℕ) → IsOffer instance.now g k → k
+        < slice_index state.now.pointers g → is_wanted instance.now state.now.lines g k ≡ true) }
 {
     let bars = bars_of(alloc, instance, state)?;
     for g in 0..instance.groups() {

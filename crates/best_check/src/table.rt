@@ -22,7 +22,8 @@ use std::alloc::Global;
 fn has_room(instance: &Instance, state: &State, offer: Offer) -> bool
     requires ready { IsReady instance.now state.now }
     requires offer { IsOffer instance.now offer.group.0 offer.place }
-    ensures { result ≡ nat_lt (amount_at state.now.lines offer.group.0 offer.place) (limit_of instance.now offer.group.0 offer.place) }
+    ensures { result ≡ nat_lt (amount_at state.now.lines offer.group.0 offer.place)
+        (limit_of instance.now offer.group.0 offer.place) }
 {
     state.units(offer) < Units::from(instance.limit(offer.group, offer.place))
 }
@@ -31,9 +32,13 @@ fn has_room(instance: &Instance, state: &State, offer: Offer) -> bool
 fn goes_before(instance: &Instance, state: &State, ranked: Ranked, other: Option<Ranked>) -> bool
     requires ready { IsReady instance.now state.now }
     requires offer { IsOffer instance.now ranked.offer.group.0 ranked.offer.place }
-    ensures room { OnTrue result (amount_at state.now.lines ranked.offer.group.0 ranked.offer.place < limit_of instance.now ranked.offer.group.0 ranked.offer.place) }
+    ensures room { OnTrue result (amount_at state.now.lines ranked.offer.group.0 ranked.offer.place
+        < limit_of instance.now ranked.offer.group.0 ranked.offer.place) }
     ensures before { OnTrue result (IfSome other (λ o. key_le ranked.key o.key ≡ true)) }
-    ensures otherwise { OnFalse result ((limit_of instance.now ranked.offer.group.0 ranked.offer.place ≤ amount_at state.now.lines ranked.offer.group.0 ranked.offer.place) ⊎ ((o : Ranked) × (other ≡ Some o) × (key_le o.key ranked.key ≡ true))) }
+    ensures otherwise { OnFalse result
+        ((limit_of instance.now ranked.offer.group.0 ranked.offer.place
+        ≤ amount_at state.now.lines ranked.offer.group.0 ranked.offer.place)
+        ⊎ ((o : Ranked) × (other ≡ Some o) × (key_le o.key ranked.key ≡ true))) }
 {
     match other {
         Some(other) if other.key < ranked.key => false,
@@ -95,7 +100,8 @@ pub fn best_waiting(
 ) -> Result<Vec<Option<Ranked>>, NoMemory>
     requires ready { IsReady instance.now state.now }
     requires past { ArePastWanted instance.now state.now }
-    ensures { IfOk result (λ table. IsTable instance.now state.now.lines (length instance.now.groups) 0 table.items) }
+    ensures { IfOk result (λ table. IsTable instance.now state.now.lines
+        (length instance.now.groups) 0 table.items) }
 {
     let nearest = nearest_full(alloc, instance, state)?;
     let mut table = vec![in alloc; None; instance.nodes() as usize]?;
@@ -124,7 +130,8 @@ fn next_at(
     requires node { node.0 < length instance.now.nodes }
     requires above { length nexts.now ≡ node.0 }
     ensures offer { IfSome result (λ o. IsRanked instance.now o) }
-    ensures next { (lines : List MapLine) → IsWhole instance.now lines table.now → AreNextAt instance.now lines nexts.now → IsNextAt instance.now lines node.0 result }
+    ensures next { (lines : List MapLine) → IsWhole instance.now lines table.now
+        → AreNextAt instance.now lines nexts.now → IsNextAt instance.now lines node.0 result }
 {
     // Tells the prover that this is an instance.
     let _count = instance.nodes();
@@ -144,7 +151,8 @@ pub fn nexts_of(
     requires size { length table.now ≡ length instance.now.nodes }
     requires offers { AreRanked instance.now table.now }
     ensures size { IfOk result (λ nexts. length nexts.items ≡ length instance.now.nodes) }
-    ensures nexts { IfOk result (λ nexts. (lines : List MapLine) → IsWhole instance.now lines table.now → AreNextAt instance.now lines nexts.items) }
+    ensures nexts { IfOk result (λ nexts. (lines : List MapLine)
+        → IsWhole instance.now lines table.now → AreNextAt instance.now lines nexts.items) }
 {
     let mut nexts = Vec::new(alloc);
     for n in 0..instance.nodes() {

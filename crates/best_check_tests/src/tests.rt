@@ -161,7 +161,8 @@ const ROWS: &[Row] = &[
 
 /// Whether a map is good for an instance.
 fn is_good(alloc: Global, instance: &Instance, map: &MapLines) -> Result<bool, NoMemory>
-    ensures { IfOk result (λ good. good ≡ true → IsGood instance.now map.now.lines.items map.now.names.items) }
+    ensures { IfOk result (λ good. good ≡ true
+        → IsGood instance.now map.now.lines.items map.now.names.items) }
 {
     let mut room = CheckRoom::new(alloc, instance)?;
     match check(instance, map, &mut room) {

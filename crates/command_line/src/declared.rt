@@ -15,7 +15,8 @@ fn positional<'a>(alloc: Global, id: &'a str) -> Arg<'a>
 }
 
 fn command<'a>(alloc: Global, name: &'a str, ids: &[&'a str]) -> Result<Command<'a>, AllocError>
-    ensures app { IfOk result (λ c. app_of c ≡ record { top = command name.entry.now (map (λ id. id.now) ids.now); subs = [] }) }
+    ensures app { IfOk result (λ c. app_of c
+        ≡ record { top = command name.entry.now (map (λ id. id.now) ids.now); subs = [] }) }
     ensures local { IfOk result (λ c. (fields_of c).has_globals ≡ false) }
 {
     let mut command = Command::new(alloc, name);

@@ -111,7 +111,8 @@ fn named<'a>(name: &str, found: &ArgMatches<'a>) -> Option<Command<'a>>
 }
 
 fn command_of<'a>(matches: &ArgMatches<'a>) -> Option<Command<'a>>
-    ensures { option_map ask_of result ≡ option_and_then (λ s. asked_by s.0 s.1) (subcommand_rows_of matches.now) }
+    ensures { option_map ask_of result
+        ≡ option_and_then (λ s. asked_by s.0 s.1) (subcommand_rows_of matches.now) }
 {
     let (name, found) = matches.subcommand()?;
     named(name, found)

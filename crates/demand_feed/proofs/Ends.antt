@@ -88,6 +88,7 @@ read_more pieces buffer k a b c p r s = record {
   given = s.gives.1 ∙ ap (λ xs. xs ++ take k buffer ∷ []) r.given ∙ append_assoc a.pieces pieces (take k buffer ∷ []);
   shortest = shortest_again a.shortest b.shortest c.shortest r.shortest s.shortest;
   sizes = All-push IsPiece pieces (take k buffer) r.sizes p;
+  names = s.names ∙ r.names;
 }
 
 -- the end was read
@@ -97,6 +98,7 @@ read_end pieces buffer a b c r s = record {
   given = s.gives.1 ∙ r.given;
   shortest = shortest_again a.shortest b.shortest c.shortest r.shortest s.shortest;
   sizes = r.sizes;
+  names = s.names ∙ r.names;
 }
 
 -- a read failed
@@ -106,6 +108,7 @@ read_failed pieces buffer a b c r s = record {
   given = s.gives.1 ∙ r.given;
   shortest = shortest_again a.shortest b.shortest c.shortest r.shortest s.shortest;
   sizes = r.sizes;
+  names = s.names ∙ r.names;
 }
 
 -- at the end nothing is left
@@ -117,7 +120,7 @@ none_left (Some bytes) (Some others) told = told.1
 
 -- nothing was read
 pub read_none : (a : Fed) → HasRead [] a a
-read_none a = record { left = tell_self a.left (λ x y. x ≡ y) (λ x. refl); given = sym (append-nil a.pieces); shortest = inl refl; sizes = λ k d h. absurd (omega (arith, h)) }
+read_none a = record { left = tell_self a.left (λ x y. x ≡ y) (λ x. refl); given = sym (append-nil a.pieces); shortest = inl refl; sizes = λ k d h. absurd (omega (arith, h)); names = refl }
 
 -- ahead of all bytes
 pub reads_none : {X : Type 0} (does : Task → X → X → Type 0) (t : Plan) (clerk : Clerking) (s : X) → clerk.ledger ≡ fresh → Reads does t s [] [] clerk s

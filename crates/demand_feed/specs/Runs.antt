@@ -16,12 +16,13 @@ use Rattle.demand_feed.specs.declared.run.FeedEnd.TheVariants.{Ended, SourceFaul
 abbrev pub IsPiece : List ℕ → Type 0
 IsPiece piece = (1 ≤ length piece) × (length piece ≤ read_size)
 
--- These pieces were read, each into a buffer of the one size: the shortest buffer of all stays or becomes one of that size, and no piece is longer.
+-- These pieces were read, each into a buffer of the one size: the shortest buffer of all stays or becomes one of that size, and no piece is longer. Under no further name was it opened.
 pub record HasRead (pieces : List (List ℕ)) (before after : Fed) : Type 0 where
   pub left : BothTell before.left after.left (λ b a. b ≡ concat pieces ++ a)
   pub given : after.pieces ≡ before.pieces ++ pieces
   pub shortest : (after.shortest ≡ before.shortest) ⊎ (after.shortest ≡ shorter before.shortest read_size)
   pub sizes : All IsPiece pieces
+  pub names : after.names ≡ before.names
 
 -- its end was answered, and nothing is left where it tells that
 abbrev pub IsOver : Fed → Fed → Type 0

@@ -94,38 +94,6 @@ fn take_turn<S: Source, T: TakesTasks>(
     }
 }
 
-/// Reads a feed in at most so many pieces.
-fn read_all<S: Source, T: TakesTasks>(
-    topology: &Topology,
-    clerk: &mut Clerk,
-    cutter: &mut Cutter,
-    buffer: &mut [u8],
-    feed: &mut S,
-    to: &mut T,
-    turns: u64,
-) -> FeedEnd
-    requires buffer { length buffer.old ≡ READ_SIZE }
-    requires ready { IsReady T.market T.left topology.now clerk.old to.old (READ_SIZE * turns) }
-    ensures came { (before : T)
-        → Reads T.does topology.now before [] cutter.old clerk.old to.old → IsRun T.does T.cuts
-        topology.now turns result (S.told feed.old).past (S.told feed.new).past before to.new }
-    ensures later { (S.told feed.old).faults ≤ (S.told feed.new).faults }
-    ensures cause { result ≡ FeedEnd.SourceFault
-        → Rose (S.told feed.old).faults (S.told feed.new).faults }
-    ensures stays { result ≢ FeedEnd.SourceFault
-        → (S.told feed.new).faults ≡ (S.told feed.old).faults }
-{
-    let mut used: u64 = 0;
-    'pieces: while used < turns {
-        let end = take_turn(topology, clerk, cutter, buffer, feed, to);
-        if let Some(end) = end {
-            return end;
-        }
-        used += 1;
-    }
-    FeedEnd::Spent
-}
-
 /// What a run over a feed works with. All its room is taken when it is made.
 #[derive(Drop)]
 pub struct Intake {
@@ -179,15 +147,16 @@ pub fn run_lines<S: Source, T: TakesTasks>(
         cutter,
         buffer,
     } = intake;
+    let buffer = buffer.as_mut_slice();
     clerk.restart();
     cutter.clear();
-    read_all(
-        topology,
-        clerk,
-        cutter,
-        buffer.as_mut_slice(),
-        feed,
-        to,
-        turns,
-    )
+    let mut used: u64 = 0;
+    'pieces: while used < turns {
+        let end = take_turn(topology, clerk, cutter, buffer, feed, to);
+        if let Some(end) = end {
+            return end;
+        }
+        used += 1;
+    }
+    FeedEnd::Spent
 }

@@ -14,7 +14,7 @@ use Rattle.lane_model.specs.Turns.{Turn, Came, entries_of, entries_of_came, trie
 use Rattle.tcp_lane.specs.Replies.{stream_replies}
 use Rattle.tcp_lane.specs.Turns.{lane_of}
 use Rattle.drive.specs.Done.{IsOverNewest, IsOverPast, IsOverSeen, LaneTold, ServerTold, StreamLaneTold}
-use Rattle.drive.specs.Driven.{AreDone, IsDriven, Lent}
+use Rattle.drive.specs.Driven.{AreDone, IsDriven, LentTold}
 use Rattle.drive.specs.Streams.{AreStreamsDone}
 use Rattle.drive.specs.Laws.{all_logs, log_over, logs_of, stream_logs}
 
@@ -86,7 +86,7 @@ stream_runs turns first rest w (Some e) before after d =
     let run = any_run Stream Datagram d.served_log.over w 0 0 (entries_of stream_replies.way (lane_of d.log)) (tries_of (lane_of d.log)) d.served_log.run in
     let one = one_run stream_replies.way first rest w (lane_of d.log) d.served_log.over d.served e before after run d.served_log.which in (one.0, one.1, tt)
 
-pub are_runs : (turns : ℕ) (first : Version) (end : FeedEnd) (ends : List Ended) (stream_end : Option Ended) (before after : Lent) (d : IsDriven turns first end ends stream_end before after) → AreRuns replies (first ∷ d.rest) 0 (all_logs turns first end ends stream_end before after d)
+pub are_runs : (turns : ℕ) (first : Version) (end : FeedEnd) (ends : List Ended) (stream_end : Option Ended) (before after : LentTold) (d : IsDriven turns first end ends stream_end before after) → AreRuns replies (first ∷ d.rest) 0 (all_logs turns first end ends stream_end before after d)
 are_runs turns first end ends stream_end before after d =
     let size : length ends ≡ 0 + length (logs_of turns first d.rest 0 ends before.lanes after.lanes d.lanes) = omega (arith, logs_length turns first d.rest 0 ends before.lanes after.lanes d.lanes) in
     runs_append (first ∷ d.rest) 0 (logs_of turns first d.rest 0 ends before.lanes after.lanes d.lanes) (stream_logs turns first d.rest (length ends) stream_end before.stream after.stream d.stream)

@@ -1,6 +1,7 @@
 -- The versions that a feed's run publishes go on one from the other.
 use Rattle.std.proofs.Common.{◌≡◌, ℕ, suc, ◌-◌, List, [], ◌∷◌, ◌++◌, length, slice_get, Option, Some, inl, inr, refl, sym, ap, subst, ◌∙◌, arith, append_assoc, append-nil, length-append}
 use Rattle.map_model.specs.declared.change.Change.{Change}
+use Rattle.outside.specs.Faults.{DeviceState}
 use Rattle.outside.specs.Sink.{Written}
 use Rattle.outside.specs.Source.{Fed}
 use Rattle.outside.specs.declared.pace.PaceCall.{PaceCall}
@@ -21,7 +22,7 @@ use Rattle.mapper.specs.Feeds.{AreFeeds, HaveEnded}
 use Rattle.mapper.specs.Items.{AllWork, WorksAs}
 use Rattle.mapper.specs.Scenes.{Scene, scene}
 use Rattle.drive.specs.Driven.{Succeeds}
-use Rattle.drive.specs.Feeds.{AreFedTogether, FeedTold}
+use Rattle.drive.specs.Feeds.{AreFedTogether}
 
 -- each version comes of the one before it, from an old one to the last
 abbrev pub Chain : Version → List Version → Version → Type 0
@@ -147,7 +148,7 @@ feed_over t turns end fed fed' first last h h' g g' out maps out' maps' pace pac
     subst (λ (x : List Version). IsFeed t turns end fed fed' (scene first g out maps pace) (scene last x out' maps' pace')) same' (subst (λ (x : List Version). IsFeed t turns end fed fed' (scene first x out maps pace) (scene last h' out' maps' pace')) same f)
 
 -- the same of several feeds
-pub together_over : (t : Plan) (turns : ℕ) (end : FeedEnd) (feed feed' : FeedTold) (more more' : List FeedTold) (first last : Version) (h h' g g' : List Version) (out maps out' maps' : Option Written) (pace pace' : Option (List PaceCall)) → h ≡ g → h' ≡ g'
+pub together_over : (t : Plan) (turns : ℕ) (end : FeedEnd) (feed feed' : DeviceState Fed) (more more' : List (DeviceState Fed)) (first last : Version) (h h' g g' : List Version) (out maps out' maps' : Option Written) (pace pace' : Option (List PaceCall)) → h ≡ g → h' ≡ g'
     → AreFedTogether t turns end feed feed' more more' (scene first h out maps pace) (scene last h' out' maps' pace') → AreFedTogether t turns end feed feed' more more' (scene first g out maps pace) (scene last g' out' maps' pace')
 together_over t turns end feed feed' more more' first last h h' g g' out maps out' maps' pace pace' same same' f =
     subst (λ (x : List Version). AreFedTogether t turns end feed feed' more more' (scene first g out maps pace) (scene last x out' maps' pace')) same' (subst (λ (x : List Version). AreFedTogether t turns end feed feed' more more' (scene first x out maps pace) (scene last h' out' maps' pace')) same f)

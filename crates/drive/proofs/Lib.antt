@@ -1,3 +1,4 @@
+mod Told
 pub mod Joined
 pub mod Together
 pub mod Holding

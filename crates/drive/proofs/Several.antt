@@ -1,5 +1,5 @@
 -- Several feeds: what their feeders sent was worked, all of it, and what the end of a run says of each of them.
-use Rattle.std.proofs.Common.{◌≡◌, ◌≢◌, ◌⊎◌, inl, inr, ℕ, zero, suc, ◌+◌, ◌<◌, ◌≤◌, ◌==◌, ◌||◌, Bool, true, false, true≢false, if◌then◌else◌, cond, List, [], ◌∷◌, ◌++◌, All, map, length, Option, eq-eqb, refl, ap, sym, subst, ◌∙◌, append_assoc, arith}
+use Rattle.std.proofs.Common.{◌≡◌, ◌≢◌, ◌⊎◌, inl, inr, ℕ, zero, suc, ◌+◌, ◌<◌, ◌≤◌, ◌==◌, ◌||◌, Bool, true, false, true≢false, if◌then◌else◌, cond, List, [], ◌∷◌, ◌++◌, All, map, length, eq-eqb, refl, ap, sym, subst, ◌∙◌, append_assoc, arith}
 use Rattle.std.proofs.lemmas.Bool.{cases_lt}
 use Rattle.std.specs.List.{list_any, range_with_len}
 use Rattle.std.proofs.lemmas.List.{length-map}
@@ -22,9 +22,8 @@ use Rattle.feed_queue.proofs.Wholes.{all_is_taken, runs_end_last}
 use Rattle.mapper.specs.Feeds.{AreFeeds, HasMerged, HaveEnded, first_end, has_one, is_no_memory, is_source_fault, is_spent_end}
 use Rattle.mapper.specs.Scenes.{Scene}
 use Rattle.drive.specs.All.{AllRan}
-use Rattle.drive.specs.Feeds.{AllStand, AnyRose, AreFed, AreFedTogether, AreSent, AreTied, FeedTold, NoneFell}
+use Rattle.drive.specs.Feeds.{AllStand, AnyRose, AreFed, AreFedTogether, AreSent, AreTied, NoneFell}
 use Rattle.drive.specs.Read.{IsRead}
-use Rattle.drive.specs.Told.{feed_told}
 
 -- what the feeder at that place sent
 abbrev pub sent_at : List FeederState → ℕ → List What
@@ -44,17 +43,17 @@ AreBegun taken (g ∷ gs) = (IsPrefix (sent_by g.feeder taken) g.sent × EndsLas
 
 -- how feeds were read
 abbrev pub Reads : {T : Type 0} → Plan → ℕ → (T → DeviceState Fed) → T → T → FeederState → FeederState → Type 0
-Reads t turns told x y f g = IsRead t turns (told x).past (told y).past (told x).faults (told y).faults f g
+Reads t turns told x y f g = IsRead t turns (told x) (told y) f g
 
-abbrev pub tells : {T : Type 0} → (T → DeviceState Fed) → List T → List FeedTold
-tells told xs = map (feed_told told) xs
+abbrev pub tells : {T : Type 0} → (T → DeviceState Fed) → List T → List (DeviceState Fed)
+tells told xs = map told xs
 
 -- a feed that was given up: nothing was read of it, and its feeder sent this end alone
-pub given_up : (t : Plan) (turns : ℕ) (fed : Option Fed) (faults : ℕ) (f g : FeederState) → f.sent ≡ [] → g ≡ with_item f (what.End ends.NoMemory) → IsRead t turns fed fed faults faults f g
-given_up t turns fed faults f g unused is =
+pub given_up : (t : Plan) (turns : ℕ) (feed : DeviceState Fed) (f g : FeederState) → f.sent ≡ [] → g ≡ with_item f (what.End ends.NoMemory) → IsRead t turns feed feed f g
+given_up t turns feed f g unused is =
     let sent : g.sent ≡ what.End ends.NoMemory ∷ [] = ap (λ (s : FeederState). s.sent) is ∙ ap (λ (ws : List What). ws ++ what.End ends.NoMemory ∷ []) unused in record {
       same = (ap (λ (s : FeederState). s.queue) is, ap (λ (s : FeederState). s.feeder) is);
-      sent = has_sent_none t turns fed g.sent sent;
+      sent = has_sent_none t turns feed.past g.sent sent;
       source = λ e. absurd (no_fault e.0 (sym sent ∙ e.1));
       later = omega arith;
       stays = λ none. refl;
@@ -364,8 +363,8 @@ none_at items gs end start stop w (inl first) is put k e = go (cases_lt k (lengt
     go (inr past) = true≢false (sym has ∙ ap has_fault (past_is gs k past))
 
 -- the first feed and further ones, each with its feeder
-module _ {T : Type 0} (t : Plan) (turns : ℕ) (told : T → DeviceState Fed) (groups nodes : ℕ) (queue : TableId) (a b : Option Fed) (i j : ℕ) (f g : FeederState) (xs ys : List T) (fs gs : List FeederState) (taken : List Item)
-    (first : IsRead t turns a b i j f g) (first_is : f ≡ fresh_feeder queue 0) (read : AllRan (Reads t turns told) xs ys fs gs) (fresh : fs ≡ map (fresh_feeder queue) (range_with_len 1 (length xs)))
+module _ {T : Type 0} (t : Plan) (turns : ℕ) (told : T → DeviceState Fed) (groups nodes : ℕ) (queue : TableId) (a b : DeviceState Fed) (f g : FeederState) (xs ys : List T) (fs gs : List FeederState) (taken : List Item)
+    (first : IsRead t turns a b f g) (first_is : f ≡ fresh_feeder queue 0) (read : AllRan (Reads t turns told) xs ys fs gs) (fresh : fs ≡ map (fresh_feeder queue) (range_with_len 1 (length xs)))
     (are : AreTaken groups nodes (1 + length xs) taken) (began : IsPrefix (sent_by g.feeder taken) g.sent) (begun : All (λ (x : FeederState). IsPrefix (sent_by x.feeder taken) x.sent) gs) (ended : ends_in taken ≡ 1 + length xs) where
   size : length (g ∷ gs) ≡ 1 + length xs
   size = let n = lengths t turns told xs ys fs gs read in omega (arith, n)
@@ -374,10 +373,10 @@ module _ {T : Type 0} (t : Plan) (turns : ℕ) (told : T → DeviceState Fed) (g
   all_of =
       let zero_is : g.feeder ≡ 0 = first.same.1 ∙ ap (λ (s : FeederState). s.feeder) first_is in
       whole_of groups nodes taken (g ∷ gs) (subst (λ (n : ℕ). AreTaken groups nodes n taken) (sym size) are) (zero_is, numbered t turns told queue 1 (length xs) xs ys fs gs fresh read)
-      ((began, runs_end_last t turns a b g.sent first.sent), all_begun t turns told taken xs ys fs gs begun read) (ended ∙ sym size)
+      ((began, runs_end_last t turns a.past b.past g.sent first.sent), all_begun t turns told taken xs ys fs gs begun read) (ended ∙ sym size)
 
   pub together : (end : FeedEnd) (start stop : Scene) → AreFeeds (1 + length xs) end taken start stop → (end ≢ ends.SinkFault → HasMerged taken start stop)
-      → AreFedTogether t turns end (record { fed = a; faults = i }) (record { fed = b; faults = j }) (tells told xs) (tells told ys) start stop
+      → AreFedTogether t turns end a b (tells told xs) (tells told ys) start stop
   together end start stop run merged =
       let w = all_of in
       let tellers : length (tells told xs) ≡ length xs = length-map _ _ in
@@ -392,23 +391,23 @@ module _ {T : Type 0} (t : Plan) (turns : ℕ) (told : T → DeviceState Fed) (g
         others = λ k l. w.others k (omega (arith, l, count, size));
       }
 
-  pub source_rose : (end : FeedEnd) (start stop : Scene) → AreFeeds (1 + length xs) end taken start stop → end ≡ ends.SourceFault → Rose i j ⊎ AnyRose (tells told xs) (tells told ys)
+  pub source_rose : (end : FeedEnd) (start stop : Scene) → AreFeeds (1 + length xs) end taken start stop → end ≡ ends.SourceFault → Rose a.faults b.faults ⊎ AnyRose (tells told xs) (tells told ys)
   source_rose end start stop run is = go k.0 k.2
     where
       k : (k : ℕ) × (k < length (g ∷ gs)) × EndsWith (sent_at (g ∷ gs) k) ends.SourceFault
       k = fault_at taken (g ∷ gs) end start (record stop { pace = run.calls }) all_of run.ended is
 
-      go : (k : ℕ) → EndsWith (sent_at (g ∷ gs) k) ends.SourceFault → Rose i j ⊎ AnyRose (tells told xs) (tells told ys)
+      go : (k : ℕ) → EndsWith (sent_at (g ∷ gs) k) ends.SourceFault → Rose a.faults b.faults ⊎ AnyRose (tells told xs) (tells told ys)
       go zero e = inl (first.source e)
       go (suc k) e = inr (any_rose t turns told xs ys fs gs k e read)
 
-  pub sources_stand : (end : FeedEnd) (start stop : Scene) → AreFeeds (1 + length xs) end taken start stop → end ≢ ends.SourceFault → end ≢ ends.SinkFault → (j ≡ i) × AllStand (tells told xs) (tells told ys)
+  pub sources_stand : (end : FeedEnd) (start stop : Scene) → AreFeeds (1 + length xs) end taken start stop → end ≢ ends.SourceFault → end ≢ ends.SinkFault → (b.faults ≡ a.faults) × AllStand (tells told xs) (tells told ys)
   sources_stand end start stop run is put =
       let none = none_at taken (g ∷ gs) end start (record stop { pace = run.calls }) all_of run.ended is put in
       (first.stays (none 0), all_stand t turns told xs ys fs gs (λ k. none (suc k)) read)
 
 -- one feed more than none
-pub are_fed : (t : Plan) (turns : ℕ) (end : FeedEnd) (feed feed_after : FeedTold) (more more_after : List FeedTold) (start stop : Scene) → more ≢ []
+pub are_fed : (t : Plan) (turns : ℕ) (end : FeedEnd) (feed feed_after : DeviceState Fed) (more more_after : List (DeviceState Fed)) (start stop : Scene) → more ≢ []
     → AreFedTogether t turns end feed feed_after more more_after start stop → AreFed t turns end feed more feed_after more_after start stop
 are_fed t turns end feed feed_after [] more_after start stop some f = absurd (some refl)
 are_fed t turns end feed feed_after (m ∷ more) more_after start stop some f = f
@@ -425,37 +424,37 @@ pub back_all : (taken : List Item) (all left done : List FeederState) → all �
 back_all taken all left done e none h = subst (λ (l : List FeederState). All (Begins taken) l) (sym (e ∙ ap (λ (l : List FeederState). l ++ done) none)) h
 
 -- what is said of several feeds behind their run
-pub record AreRun (t : Plan) (turns : ℕ) (end : FeedEnd) (a b : Option Fed) (i j : ℕ) (before after : List FeedTold) (start stop : Scene) : Type 0 where
-  pub fed : AreFedTogether t turns end (record { fed = a; faults = i }) (record { fed = b; faults = j }) before after start stop
-  pub source : end ≡ ends.SourceFault → Rose i j ⊎ AnyRose before after
-  pub stays : end ≢ ends.SourceFault → end ≢ ends.SinkFault → (j ≡ i) × AllStand before after
-  pub later : (i ≤ j) × NoneFell before after
+pub record AreRun (t : Plan) (turns : ℕ) (end : FeedEnd) (a b : DeviceState Fed) (before after : List (DeviceState Fed)) (start stop : Scene) : Type 0 where
+  pub fed : AreFedTogether t turns end a b before after start stop
+  pub source : end ≡ ends.SourceFault → Rose a.faults b.faults ⊎ AnyRose before after
+  pub stays : end ≢ ends.SourceFault → end ≢ ends.SinkFault → (b.faults ≡ a.faults) × AllStand before after
+  pub later : (a.faults ≤ b.faults) × NoneFell before after
 
 -- from what was lent ahead of it, and what was told by who took all and was given the feeders back
-pub several : {T : Type 0} (t p : Plan) (turns : ℕ) (told : T → DeviceState Fed) (groups nodes : ℕ) (a b : Option Fed) (i j : ℕ) (f g : FeederState) (xs ys : List T) (fs gs : List FeederState) (opened given now : TakerState) (end : FeedEnd) (start stop : Scene)
+pub several : {T : Type 0} (t p : Plan) (turns : ℕ) (told : T → DeviceState Fed) (groups nodes : ℕ) (a b : DeviceState Fed) (f g : FeederState) (xs ys : List T) (fs gs : List FeederState) (opened given now : TakerState) (end : FeedEnd) (start stop : Scene)
     → t ≡ p → given ≡ now → now.feeders ≡ opened.feeders → opened.feeders ≡ 1 + length xs → f ≡ fresh_feeder opened.queue 0 → fs ≡ map (fresh_feeder opened.queue) (range_with_len 1 (length xs))
-    → IsRead t turns a b i j f g → AllRan (Reads t turns told) xs ys fs gs → AreTaken groups nodes given.feeders given.taken → Begins given.taken g → All (Begins given.taken) gs
-    → AreFeeds opened.feeders end now.taken start stop → (end ≢ ends.SinkFault → HasMerged now.taken start stop) → AreRun p turns end a b i j (tells told xs) (tells told ys) start stop
-several {T = T} t p turns told groups nodes a b i j f g xs ys fs gs opened given now end start stop plan same count size first_is fresh first read are began begun run merged =
+    → IsRead t turns a b f g → AllRan (Reads t turns told) xs ys fs gs → AreTaken groups nodes given.feeders given.taken → Begins given.taken g → All (Begins given.taken) gs
+    → AreFeeds opened.feeders end now.taken start stop → (end ≢ ends.SinkFault → HasMerged now.taken start stop) → AreRun p turns end a b (tells told xs) (tells told ys) start stop
+several {T = T} t p turns told groups nodes a b f g xs ys fs gs opened given now end start stop plan same count size first_is fresh first read are began begun run merged =
     let are' : AreTaken groups nodes (1 + length xs) now.taken = subst (λ (n : ℕ). AreTaken groups nodes n now.taken) (count ∙ size) (subst (λ (x : TakerState). AreTaken groups nodes x.feeders x.taken) same are) in
     let began' : IsPrefix (sent_by g.feeder now.taken) g.sent = subst (λ (x : TakerState). Begins x.taken g) same began in
     let begun' : All (λ (x : FeederState). IsPrefix (sent_by x.feeder now.taken) x.sent) gs = subst (λ (x : TakerState). All (Begins x.taken) gs) same begun in
     let run' : AreFeeds (1 + length xs) end now.taken start stop = subst (λ (n : ℕ). AreFeeds n end now.taken start stop) size run in
-    let all = together t turns told groups nodes opened.queue a b i j f g xs ys fs gs now.taken first first_is read fresh are' began' begun' run'.all end start stop run' merged in
-    let all' = subst (λ (x : Plan). AreFedTogether x turns end (record { fed = a; faults = i }) (record { fed = b; faults = j }) (tells told xs) (tells told ys) start stop) plan all in record {
+    let all = together t turns told groups nodes opened.queue a b f g xs ys fs gs now.taken first first_is read fresh are' began' begun' run'.all end start stop run' merged in
+    let all' = subst (λ (x : Plan). AreFedTogether x turns end a b (tells told xs) (tells told ys) start stop) plan all in record {
       fed = all';
-      source = source_rose t turns told groups nodes opened.queue a b i j f g xs ys fs gs now.taken first first_is read fresh are' began' begun' run'.all end start stop run';
-      stays = sources_stand t turns told groups nodes opened.queue a b i j f g xs ys fs gs now.taken first first_is read fresh are' began' begun' run'.all end start stop run';
+      source = source_rose t turns told groups nodes opened.queue a b f g xs ys fs gs now.taken first first_is read fresh are' began' begun' run'.all end start stop run';
+      stays = sources_stand t turns told groups nodes opened.queue a b f g xs ys fs gs now.taken first first_is read fresh are' began' begun' run'.all end start stop run';
       later = (first.later, none_fell t turns told xs ys fs gs read);
     }
 
 -- as many are told of as there are
-pub some_told : {T : Type 0} (tell : T → FeedTold) (xs : List T) → xs ≢ [] → map tell xs ≢ []
+pub some_told : {T : Type 0} (tell : T → DeviceState Fed) (xs : List T) → xs ≢ [] → map tell xs ≢ []
 some_told tell [] some e = some refl
 some_told tell (x ∷ xs) some e = cc
 
 -- what is left alone
-pub all_same : (xs : List FeedTold) → NoneFell xs xs
+pub all_same : (xs : List (DeviceState Fed)) → NoneFell xs xs
 all_same [] = refl
 all_same (x ∷ xs) = (omega arith, all_same xs)
 

@@ -1,5 +1,6 @@
 -- Inside this crate alone: lanes beside their workers.
-use Rattle.std.specs.Prelude.{◌≡◌, List, [], ◌∷◌, Option, None, Some}
+use Rattle.std.specs.Prelude.{◌≡◌, List, [], ◌∷◌, Option, None, Some, Vec, vec_capacity, vec_len}
+use Rattle.drive.specs.declared.beside.Workers.{Workers}
 
 -- each lane with its worker
 abbrev pub AllRan : {A W : Type 0} → (A → A → W → W → Type 0) → List A → List A → List W → List W → Type 0
@@ -11,3 +12,11 @@ AllRan R _ _ _ _ = ⊥
 pub record MayRan {A W : Type 0} (R : A → A → W → W → Type 0) (x y : A) (v w : Option W) : Type 0 where
   pub none : v ≡ None → (w ≡ None) × (y ≡ x)
   pub some : (a : W) → v ≡ Some a → (b : W) × (w ≡ Some b) × R x y a b
+
+-- all workers, each with its lane, of which there are as many as before, in as much room
+abbrev pub HaveRun : {A W Z : Type 0} → (A → A → W → W → Type 0) → List A → List A → Vec W Z → Vec W Z → Type 0
+HaveRun R xs ys v w = AllRan R xs ys v.items w.items × (vec_len w ≡ vec_len v) × (vec_capacity w ≡ vec_capacity v)
+
+-- the workers of the lanes, each with its own, and the one for conversations, where there is one
+abbrev pub HaveServed : {A B C H : Type 0} → (A → A → H → H → Type 0) → (B → B → H → H → Type 0) → List A → List A → B → B → Workers C H → Workers C H → Type 0
+HaveServed R Q xs ys x y v w = AllRan R xs ys v.lanes.items w.lanes.items × MayRan Q x y v.stream w.stream × (vec_len w.lanes ≡ vec_len v.lanes)

@@ -1,6 +1,10 @@
 -- Inside this crate alone: lanes and their workers, by their numbers.
-use Rattle.std.specs.Prelude.{◌≡◌, ℕ, ◌+◌, List, [], ◌∷◌}
+use Rattle.std.specs.Prelude.{◌≡◌, ℕ, ◌+◌, List, [], ◌∷◌, option_map, vec_len}
 use Rattle.published_map.specs.Version.{Version}
+use Rattle.map_cell.specs.Ends.{PublisherState}
+use Rattle.drive.specs.Done.{IsDone, LaneTold, StreamLaneTold}
+use Rattle.drive.specs.Streams.{AreStreamsDone}
+use Rattle.drive.specs.declared.beside.Workers.{Workers}
 use Rattle.drive.specs.declared.lane.LaneWorker.{LaneWorker}
 
 -- a worker of that number, which knows this history, has answered nothing, and has so many turns
@@ -23,3 +27,13 @@ AllDone D i _ _ _ = ⊥
 abbrev pub AllHeld : {A : Type 0} → (ℕ → A → Type 0) → ℕ → List A → Type 0
 AllHeld P i [] = Unit {0}
 AllHeld P i (a ∷ ls) = P i a × AllHeld P (i + 1) ls
+
+-- a mapper that has published its first version alone
+abbrev pub IsAtFirst : PublisherState → Type 0
+IsAtFirst m = (m.history ≡ m.newest ∷ []) × (m.newest.serial ≡ 0)
+
+-- all lanes that have a worker after a drive, and that for conversations, by the ends that their workers hold
+abbrev pub AreServed : {W J : Type 0} → ℕ → Version → List Version → List LaneTold → List LaneTold → StreamLaneTold → StreamLaneTold → Workers W (LaneWorker J) → Type 0
+AreServed turns first rest lanes lanes_after stream stream_after works =
+    AllDone (λ w before after x. IsDone turns first rest w before after x.ended) 0 lanes lanes_after works.lanes.items
+    × AreStreamsDone turns first rest (vec_len works.lanes) (option_map (λ x. x.ended) works.stream) stream stream_after

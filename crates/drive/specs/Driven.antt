@@ -1,27 +1,33 @@
 -- A mapper and its lanes, driven to their ends over one history.
 use Rattle.std.specs.Prelude.{◌≡◌, ℕ, ◌+◌, ◌-◌, List, [], ◌∷◌, ◌++◌, length, map, replicate, Option, None, Some, slice_get}
+use Rattle.outside.specs.Faults.{DeviceState}
 use Rattle.map_model.specs.declared.change.Change.{Change}
 use Rattle.outside.specs.Sink.{Written}
+use Rattle.outside.specs.Source.{Fed}
 use Rattle.outside.specs.declared.pace.PaceCall.{PaceCall}
 use Rattle.demand_feed.specs.declared.run.FeedEnd.{FeedEnd}
 use Rattle.published_map.specs.Version.{IsVersion, Version}
 use Rattle.lane_model.specs.declared.ended.Ended.{Ended}
 use Rattle.lane_model.specs.Machine.{GoesOn}
 use Rattle.mapper.specs.Control.{IsNext}
-use Rattle.mapper.specs.Scenes.{scene}
+use Rattle.mapper.specs.Scenes.{Scene, scene}
 use Rattle.drive.specs.Done.{IsDone, LaneTold, StreamLaneTold}
-use Rattle.drive.specs.Feeds.{AreFed, FeedTold}
+use Rattle.drive.specs.Feeds.{AreFed}
 use Rattle.drive.specs.Streams.{AreStreamsDone}
 
 -- what is told at one moment by all that a drive is lent: the feed, the further ones, both outputs, the pace, the lanes, and that for conversations
-pub record Lent : Type 0 where
-  pub feed : FeedTold
-  pub more : List FeedTold
-  pub out : Option Written
-  pub maps : Option Written
-  pub pace : Option (List PaceCall)
+pub record LentTold : Type 0 where
+  pub feed : DeviceState Fed
+  pub more : List (DeviceState Fed)
+  pub out : DeviceState Written
+  pub maps : DeviceState Written
+  pub pace : DeviceState (List PaceCall)
   pub lanes : List LaneTold
   pub stream : StreamLaneTold
+
+-- the newest version and the history, beside what both outputs and the pace tell of their pasts
+abbrev pub scene_at : Version → List Version → LentTold → Scene
+scene_at newest history lent = scene newest history lent.out.past lent.maps.past lent.pace.past
 
 -- a version may follow on a history: some changes lead to it from the last one
 abbrev pub Succeeds : List Version → Version → Type 0
@@ -34,10 +40,10 @@ AreDone turns first rest w (e ∷ ends) (b ∷ before) (c ∷ after) = IsDone tu
 AreDone turns first rest w (e ∷ ends) _ _ = ⊥
 
 -- A drive from a first version on: the run of its feed, or of all feeds together, whose versions go on from the first one, and the lanes over that history, the one for conversations behind the others.
-pub record IsDriven (turns : ℕ) (first : Version) (end : FeedEnd) (ends : List Ended) (stream_end : Option Ended) (before after : Lent) : Type 0 where
+pub record IsDriven (turns : ℕ) (first : Version) (end : FeedEnd) (ends : List Ended) (stream_end : Option Ended) (before after : LentTold) : Type 0 where
   pub rest : List Version
   pub newest : Version
-  pub feed : AreFed first.plan turns end before.feed before.more after.feed after.more (scene first (first ∷ []) before.out before.maps before.pace) (scene newest (first ∷ rest) after.out after.maps after.pace)
+  pub feed : AreFed first.plan turns end before.feed before.more after.feed after.more (scene_at first (first ∷ []) before) (scene_at newest (first ∷ rest) after)
   pub goes_on : GoesOn Succeeds (first ∷ []) rest
   pub lanes : AreDone turns first rest 0 ends before.lanes after.lanes
   pub stream : AreStreamsDone turns first rest (length ends) stream_end before.stream after.stream

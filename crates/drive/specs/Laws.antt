@@ -13,7 +13,7 @@ use Rattle.answer_core.specs.declared.way.Way.{Way}
 use Rattle.tcp_lane.specs.Replies.{stream_replies}
 use Rattle.tcp_lane.specs.Turns.{lane_of}
 use Rattle.drive.specs.Done.{LaneTold, StreamLaneTold}
-use Rattle.drive.specs.Driven.{AreDone, IsDriven, Lent}
+use Rattle.drive.specs.Driven.{AreDone, IsDriven, LentTold}
 use Rattle.drive.specs.Streams.{AreStreamsDone}
 
 -- what the turns of a lane took, by the way of its replies, and tried, if it stands over the mapper's history; else nothing
@@ -34,13 +34,13 @@ stream_logs turns first rest w None before after d = []
 stream_logs turns first rest w (Some e) before after d = log_over stream_replies.way (lane_of d.log) d.served_log.which ∷ []
 
 -- all of a drive
-abbrev pub all_logs : (turns : ℕ) (first : Version) (end : FeedEnd) (ends : List Ended) (stream_end : Option Ended) (before after : Lent) → IsDriven turns first end ends stream_end before after → List LaneLog
+abbrev pub all_logs : (turns : ℕ) (first : Version) (end : FeedEnd) (ends : List Ended) (stream_end : Option Ended) (before after : LentTold) → IsDriven turns first end ends stream_end before after → List LaneLog
 all_logs turns first end ends stream_end before after d =
     logs_of turns first d.rest 0 ends before.lanes after.lanes d.lanes ++ stream_logs turns first d.rest (length ends) stream_end before.stream after.stream d.stream
 
 -- Of each drive: the versions of its history are committed in order, and then, lane by lane, each datagram, and each message of the conversations, is taken behind a tell of what was known.
 abbrev pub DrivesAreTaken : Type 0
-DrivesAreTaken = (turns : ℕ) (first : Version) (end : FeedEnd) (ends : List Ended) (stream_end : Option Ended) (before after : Lent) (d : IsDriven turns first end ends stream_end before after)
+DrivesAreTaken = (turns : ℕ) (first : Version) (end : FeedEnd) (ends : List Ended) (stream_end : Option Ended) (before after : LentTold) (d : IsDriven turns first end ends stream_end before after)
     → (lanes : List LaneState) × HaveDone (all_logs turns first end ends stream_end before after d) lanes
     × IsTaken replies Follows (commits_of d.rest ++ events_of_lanes replies 0 (all_logs turns first end ends stream_end before after d))
     (record { history = first ∷ []; lanes = fresh_lanes (all_logs turns first end ends stream_end before after d) })

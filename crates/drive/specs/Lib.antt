@@ -7,6 +7,7 @@ pub mod Feeds
 pub mod Driven
 pub mod Fed
 pub mod Read
+pub mod Readers
 pub mod Queue
 pub mod Laws
 pub mod Told

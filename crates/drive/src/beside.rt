@@ -1,38 +1,46 @@
 //! The mapper beside its lanes.
 ghost use Rattle.std.specs.Prelude.{◌≡◌, length, vec_len};
 ghost use Rattle.std.specs.Thread.{IsSync, IsSend};
-ghost use Rattle.drive.specs.All.{AllRan, MayRan};
+ghost use Rattle.drive.specs.All.{AllRan, HaveRun, MayRan};
 
 use crate::fork::join_both;
 use crate::joins::run_all;
-use crate::lane::{Runs, Workers};
+use crate::lane::Runs;
 use std::sync::Wait;
 use std::thread::Threads;
 
-/// The mapper's side of a drive.
-pub(crate) trait Feeds<W, M> {
+/// The workers of a drive, one for each lane, and one for conversations, if they are to be answered; and what all of them
+/// share.
+#[derive(Drop)]
+pub(crate) struct Workers<W, H> {
+    pub row: W,
+    pub lanes: Vec<H>,
+    pub stream: Option<H>,
+}
+
+/// The mapper's side of a drive, beside what the workers share.
+pub(crate) trait Feeds<W> {
     /// Whether it may run.
-    ghost ready: { Self → M → Type 0 };
+    ghost ready: { Self → Type 0 };
 
     /// What a run does.
-    ghost fed: { Self → Self → M → M → Type 0 };
+    ghost fed: { Self → Self → Type 0 };
 
-    fn run_feed<R: Wait>(&mut self, rt: &R, mapper: &mut M, row: &W)
-        requires { ready self.old mapper.old }
-        ensures { fed self.old self.new mapper.old mapper.new };
+    fn run_feed<R: Wait>(&mut self, rt: &R, row: &W)
+        requires { ready self.old }
+        ensures { fed self.old self.new };
 }
 
 /// Runs the feed beside one lane.
-fn run_both<
-    W: Sync,
-    H: Drop + Send,
-    M,
-    U: Runs<W, H> + Send,
-    F: Feeds<W, M>,
-    R: Threads + Wait + Sync,
->(rt: &R, row: &W, work: &mut H, lane: &mut U, mapper: &mut M, feed: &mut F)
-    requires ready { F.ready feed.old mapper.old }
-    ensures fed { F.fed feed.old feed.new mapper.old mapper.new }
+fn run_both<W: Sync, H: Drop + Send, U: Runs<W, H> + Send, F: Feeds<W>, R: Threads + Wait + Sync>(
+    rt: &R,
+    row: &W,
+    work: &mut H,
+    lane: &mut U,
+    feed: &mut F,
+)
+    requires ready { F.ready feed.old }
+    ensures fed { F.fed feed.old feed.new }
     ensures ran { U.ran lane.old lane.new work.old work.new }
 {
     let mut one = ||
@@ -40,28 +48,27 @@ fn run_both<
         ensures { U.ran lane.entry.now lane.exit.now work.entry.now work.exit.now }
     { lane.run(row, work) };
     let mut map = ||
-        requires { F.ready feed.now mapper.now }
-        ensures { F.fed feed.entry.now feed.exit.now mapper.entry.now mapper.exit.now }
-    { feed.run_feed(rt, mapper, row) };
+        requires { F.ready feed.now }
+        ensures { F.fed feed.entry.now feed.exit.now }
+    { feed.run_feed(rt, row) };
     join_both(rt, &mut one, &mut map);
 }
 
 /// Runs the feed, and beside it one lane more, if there is a worker for that.
-fn run_rest<
-    W: Sync,
-    H: Drop + Send,
-    M,
-    U: Runs<W, H> + Send,
-    F: Feeds<W, M>,
-    R: Threads + Wait + Sync,
->(rt: &R, row: &W, listener: &mut Option<H>, stream: &mut U, mapper: &mut M, feed: &mut F)
-    requires ready { F.ready feed.old mapper.old }
-    ensures fed { F.fed feed.old feed.new mapper.old mapper.new }
+fn run_rest<W: Sync, H: Drop + Send, U: Runs<W, H> + Send, F: Feeds<W>, R: Threads + Wait + Sync>(
+    rt: &R,
+    row: &W,
+    listener: &mut Option<H>,
+    stream: &mut U,
+    feed: &mut F,
+)
+    requires ready { F.ready feed.old }
+    ensures fed { F.fed feed.old feed.new }
     ensures ran { MayRan U.ran stream.old stream.new listener.old listener.new }
 {
     match listener {
-        Some(work) => run_both(rt, row, work, stream, mapper, feed),
-        None => feed.run_feed(rt, mapper, row),
+        Some(work) => run_both(rt, row, work, stream, feed),
+        None => feed.run_feed(rt, row),
     }
 }
 
@@ -69,40 +76,30 @@ fn run_rest<
 pub(crate) fn run_beside<
     W: Sync,
     H: Drop + Send,
-    M,
     T: Runs<W, H> + Send,
     U: Runs<W, H> + Send,
-    F: Feeds<W, M>,
+    F: Feeds<W>,
     R: Threads + Wait + Sync,
->(
-    rt: &R,
-    row: &W,
-    works: &mut Workers<H>,
-    lanes: &mut [T],
-    stream: &mut U,
-    mapper: &mut M,
-    feed: &mut F,
-)
-    requires ready { F.ready feed.old mapper.old }
+>(rt: &R, works: &mut Workers<W, H>, lanes: &mut [T], stream: &mut U, feed: &mut F)
+    requires ready { F.ready feed.old }
     requires lanes { length lanes.old ≡ vec_len works.old.lanes }
-    ensures fed { F.fed feed.old feed.new mapper.old mapper.new }
+    ensures fed { F.fed feed.old feed.new }
     ensures ran { AllRan T.ran lanes.old lanes.new works.old.lanes.items works.new.lanes.items }
     ensures stream { MayRan U.ran stream.old stream.new works.old.stream works.new.stream }
     ensures len { vec_len works.new.lanes ≡ vec_len works.old.lanes }
 {
+    let row = &works.row;
     let served = &mut works.lanes;
     let listener = &mut works.stream;
     let mut all = ||
         requires { IsSync R.row × IsSend T.row × IsSend H.row × IsSync W.row
             × (length lanes.now ≡ vec_len served.now) }
-        ensures { AllRan T.ran lanes.entry.now lanes.exit.now served.entry.now.items served.exit.now.items
-            × (vec_len served.exit.now ≡ vec_len served.entry.now) }
+        ensures { HaveRun T.ran lanes.entry.now lanes.exit.now served.entry.now served.exit.now }
     { run_all(rt, row, served, lanes) };
     let mut rest = ||
-        requires { IsSync R.row × IsSend U.row × IsSend H.row × IsSync W.row
-            × F.ready feed.now mapper.now }
-        ensures { F.fed feed.entry.now feed.exit.now mapper.entry.now mapper.exit.now
+        requires { IsSync R.row × IsSend U.row × IsSend H.row × IsSync W.row × F.ready feed.now }
+        ensures { F.fed feed.entry.now feed.exit.now
             × MayRan U.ran stream.entry.now stream.exit.now listener.entry.now listener.exit.now }
-    { run_rest(rt, row, listener, stream, mapper, feed) };
+    { run_rest(rt, row, listener, stream, feed) };
     join_both(rt, &mut all, &mut rest);
 }

@@ -1,12 +1,13 @@
 //! Feeders at once, each over its feed in a thread of its own, beside what runs in this one. Where a feeder gets no thread
 //! it is told so, and gives its feed up.
-ghost use Rattle.std.specs.Prelude.{◌≡◌, ◌∷◌, [], All, length, vec_len, vec_capacity};
+ghost use Rattle.std.specs.Prelude.{◌≡◌, ◌+◌, ◌∷◌, ◌++◌, [], All, length, vec_len, vec_capacity};
 ghost use Rattle.std.specs.Thread.{IsSync, IsSend};
-ghost use Rattle.drive.specs.All.{AllRan, MayRan};
+ghost use Rattle.drive.specs.All.{AllRan, HaveRun, HaveServed, MayRan};
+ghost use Rattle.drive.specs.Readers.{IsSameReaders};
 
-use crate::beside::{Feeds, run_beside};
+use crate::beside::{Feeds, Workers, run_beside};
 use crate::fork::join_told;
-use crate::lane::{Runs, Workers};
+use crate::lane::Runs;
 use std::sync::Wait;
 use std::thread::Threads;
 
@@ -36,6 +37,25 @@ pub(crate) trait Sends<Q, F: Fresh> {
         requires desk { ready desk.now }
         requires feeder { F.fresh feeder.old }
         ensures { sent desk.now self.old self.new feeder.old feeder.new };
+}
+
+/// The feeders, and the feed that the first of them reads; and what all feeders share.
+#[derive(Drop)]
+pub(crate) struct Readers<'d, 'r, 's, 'v, Q, F, S> {
+    pub desk: &'d Q,
+    pub first: &'r mut F,
+    pub feed: &'s mut S,
+    pub feeders: &'v mut Vec<F>,
+}
+
+/// What is lent where several feeds are read: the feeders with the first feed, the further feeds, the mapper's side, and
+/// the lanes that have workers.
+#[derive(Drop)]
+pub(crate) struct SeveralLoan<'d, 'r, 's, 'v, 'n, 'l, Q, F, S, T, G, L> {
+    pub readers: Readers<'d, 'r, 's, 'v, Q, F, S>,
+    pub more: &'n mut [T],
+    pub side: G,
+    pub lanes: &'l mut [L],
 }
 
 fn send_one<Q, F: Fresh, T: Sends<Q, F>, R: Wait>(
@@ -76,9 +96,7 @@ fn run_more<
         inner();
         return;
     };
-    let count = feeds.len() - 1;
-    let (rest, last) = feeds.split_at_mut(count);
-    let feeder = run_last(rt, desk, feeders, feeder, inner, rest, last);
+    let feeder = run_last(rt, desk, feeders, feeder, inner, feeds);
     feeders.push_reserved(feeder);
 }
 
@@ -89,27 +107,20 @@ fn run_last<
     T: Sends<Q, F> + Send,
     I: FnMut(),
     R: Threads + Wait + Sync,
->(
-    rt: &R,
-    desk: &Q,
-    feeders: &mut Vec<F>,
-    feeder: F,
-    inner: &mut I,
-    rest: &mut [T],
-    last: &mut [T],
-) -> F
+>(rt: &R, desk: &Q, feeders: &mut Vec<F>, feeder: F, inner: &mut I, feeds: &mut [T]) -> F
     requires inner { I.pre inner.old }
     requires desk { T.ready desk.now }
     requires fresh { All F.fresh feeders.old.items }
     requires feeder { F.fresh feeder }
-    requires rest { length rest.old ≡ vec_len feeders.old }
-    requires last { length last.old ≡ 1 }
+    requires len { length feeds.old ≡ vec_len feeders.old + 1 }
     ensures inner { I.step inner.old tt inner.new }
-    ensures rest { AllRan (T.sent desk.now) rest.old rest.new feeders.old.items feeders.new.items }
-    ensures last { AllRan (T.sent desk.now) last.old last.new (feeder ∷ []) (result ∷ []) }
+    ensures sent { AllRan (T.sent desk.now)
+        feeds.old feeds.new (feeders.old.items ++ feeder ∷ []) (feeders.new.items ++ result ∷ []) }
     ensures len { vec_len feeders.new ≡ vec_len feeders.old }
     ensures room { vec_capacity feeders.new ≡ vec_capacity feeders.old }
 {
+    let count = feeds.len() - 1;
+    let (rest, last) = feeds.split_at_mut(count);
     let mut feeder = feeder;
     let mut one = |alone: bool|
         requires { IsSync R.row × IsSync Q.row × IsSend T.row × IsSend F.row × (length last.now ≡ 1)
@@ -121,8 +132,9 @@ fn run_last<
         requires { IsSync R.row × IsSync Q.row × IsSend T.row × IsSend F.row
             × (length rest.now ≡ vec_len feeders.now) × T.ready desk.now
             × All F.fresh feeders.now.items × I.pre inner.now }
-        ensures { AllRan
-            (T.sent desk.entry.now) rest.entry.now rest.exit.now feeders.entry.now.items feeders.exit.now.items × (vec_len feeders.exit.now ≡ vec_len feeders.entry.now) × (vec_capacity feeders.exit.now ≡ vec_capacity feeders.entry.now) × I.step inner.entry.now tt inner.exit.now }
+        ensures { HaveRun
+            (T.sent desk.entry.now) rest.entry.now rest.exit.now feeders.entry.now feeders.exit.now
+            × I.step inner.entry.now tt inner.exit.now }
     { run_more(rt, desk, feeders, inner, rest) };
     join_told(rt, &mut one, &mut others);
     feeder
@@ -136,38 +148,37 @@ fn run_feeders<
     T: Sends<Q, F> + Send,
     I: FnMut(),
     R: Threads + Wait + Sync,
->(
-    rt: &R,
-    desk: &Q,
-    first: &mut F,
-    feed: &mut S,
-    feeders: &mut Vec<F>,
-    inner: &mut I,
-    feeds: &mut [T],
-)
+>(rt: &R, readers: &mut Readers<'_, '_, '_, '_, Q, F, S>, more: &mut [T], inner: &mut I)
     requires inner { I.pre inner.old }
-    requires desk { S.ready desk.now × T.ready desk.now }
-    requires first { F.fresh first.old }
-    requires fresh { All F.fresh feeders.old.items }
-    requires len { length feeds.old ≡ vec_len feeders.old }
+    requires desk { S.ready readers.old.desk.now × T.ready readers.old.desk.now }
+    requires first { F.fresh readers.old.first.now }
+    requires fresh { All F.fresh readers.old.feeders.now.items }
+    requires len { length more.old ≡ vec_len readers.old.feeders.now }
+    ensures same { IsSameReaders readers.old readers.new }
     ensures inner { I.step inner.old tt inner.new }
-    ensures first { S.sent desk.now feed.old feed.new first.old first.new }
-    ensures sent { AllRan
-        (T.sent desk.now) feeds.old feeds.new feeders.old.items feeders.new.items }
-    ensures len { vec_len feeders.new ≡ vec_len feeders.old }
+    ensures first { S.sent readers.old.desk.now
+        readers.old.feed.now readers.new.feed.now readers.old.first.now readers.new.first.now }
+    ensures sent { AllRan (T.sent readers.old.desk.now) more.old more.new
+        readers.old.feeders.now.items readers.new.feeders.now.items }
 {
+    let desk = readers.desk;
+    let first = &mut *readers.first;
+    let feed = &mut *readers.feed;
+    let feeders = &mut *readers.feeders;
     let mut one = |alone: bool|
         requires { IsSync R.row × IsSync Q.row × IsSend S.row × IsSend F.row × S.ready desk.now
             × F.fresh first.now }
-        ensures { S.sent desk.entry.now feed.entry.now feed.exit.now first.entry.now first.exit.now }
+        ensures { S.sent
+            desk.entry.now feed.entry.now feed.exit.now first.entry.now first.exit.now }
     { feed.send(rt, desk, first, alone) };
     let mut others = ||
         requires { IsSync R.row × IsSync Q.row × IsSend T.row × IsSend F.row
-            × (length feeds.now ≡ vec_len feeders.now) × T.ready desk.now
+            × (length more.now ≡ vec_len feeders.now) × T.ready desk.now
             × All F.fresh feeders.now.items × I.pre inner.now }
-        ensures { AllRan
-            (T.sent desk.entry.now) feeds.entry.now feeds.exit.now feeders.entry.now.items feeders.exit.now.items × (vec_len feeders.exit.now ≡ vec_len feeders.entry.now) × I.step inner.entry.now tt inner.exit.now }
-    { run_more(rt, desk, feeders, inner, feeds) };
+        ensures { HaveRun
+            (T.sent desk.entry.now) more.entry.now more.exit.now feeders.entry.now feeders.exit.now
+            × I.step inner.entry.now tt inner.exit.now }
+    { run_more(rt, desk, feeders, inner, more) };
     join_told(rt, &mut one, &mut others);
 }
 
@@ -177,49 +188,50 @@ pub(crate) fn run_among<
     F: Fresh + Drop + Send,
     S: Sends<Q, F> + Send,
     T: Sends<Q, F> + Send,
+    G: Feeds<W>,
+    L: Runs<W, H> + Send,
     W: Sync,
     H: Drop + Send,
-    M,
-    L: Runs<W, H> + Send,
     U: Runs<W, H> + Send,
-    G: Feeds<W, M>,
     R: Threads + Wait + Sync,
 >(
     rt: &R,
-    desk: &Q,
-    first: &mut F,
-    feed: &mut S,
-    feeders: &mut Vec<F>,
-    feeds: &mut [T],
-    row: &W,
-    works: &mut Workers<H>,
-    lanes: &mut [L],
+    loan: &mut SeveralLoan<'_, '_, '_, '_, '_, '_, Q, F, S, T, G, L>,
+    works: &mut Workers<W, H>,
     stream: &mut U,
-    mapper: &mut M,
-    side: &mut G,
 )
-    requires desk { S.ready desk.now × T.ready desk.now }
-    requires first { F.fresh first.old }
-    requires fresh { All F.fresh feeders.old.items }
-    requires feeds { length feeds.old ≡ vec_len feeders.old }
-    requires ready { G.ready side.old mapper.old }
-    requires lanes { length lanes.old ≡ vec_len works.old.lanes }
-    ensures first { S.sent desk.now feed.old feed.new first.old first.new }
-    ensures sent { AllRan
-        (T.sent desk.now) feeds.old feeds.new feeders.old.items feeders.new.items }
-    ensures fed { G.fed side.old side.new mapper.old mapper.new }
-    ensures ran { AllRan L.ran lanes.old lanes.new works.old.lanes.items works.new.lanes.items }
+    requires desk { S.ready loan.old.readers.desk.now × T.ready loan.old.readers.desk.now }
+    requires first { F.fresh loan.old.readers.first.now }
+    requires fresh { All F.fresh loan.old.readers.feeders.now.items }
+    requires feeds { length loan.old.more.now ≡ vec_len loan.old.readers.feeders.now }
+    requires ready { G.ready loan.old.side }
+    requires lanes { length loan.old.lanes.now ≡ vec_len works.old.lanes }
+    ensures same { IsSameReaders loan.old.readers loan.new.readers
+        × (loan.new.more.ghost_name ≡ loan.old.more.ghost_name)
+        × (loan.new.lanes.ghost_name ≡ loan.old.lanes.ghost_name) }
+    ensures first { S.sent loan.old.readers.desk.now
+        loan.old.readers.feed.now loan.new.readers.feed.now
+        loan.old.readers.first.now loan.new.readers.first.now }
+    ensures sent { AllRan (T.sent loan.old.readers.desk.now) loan.old.more.now loan.new.more.now
+        loan.old.readers.feeders.now.items loan.new.readers.feeders.now.items }
+    ensures fed { G.fed loan.old.side loan.new.side }
+    ensures ran { AllRan L.ran loan.old.lanes.now loan.new.lanes.now
+        works.old.lanes.items works.new.lanes.items }
     ensures stream { MayRan U.ran stream.old stream.new works.old.stream works.new.stream }
     ensures len { vec_len works.new.lanes ≡ vec_len works.old.lanes }
 {
+    let desk = loan.readers.desk;
+    let side = &mut loan.side;
+    let lanes = &mut *loan.lanes;
+    let more = &mut *loan.more;
     let mut inner = ||
-        requires { G.ready side.now mapper.now × (length lanes.now ≡ vec_len works.now.lanes) }
-        ensures { G.fed side.entry.now side.exit.now mapper.entry.now mapper.exit.now
-            × AllRan L.ran lanes.entry.now lanes.exit.now works.entry.now.lanes.items works.exit.now.lanes.items
-            × MayRan U.ran stream.entry.now stream.exit.now works.entry.now.stream works.exit.now.stream × (vec_len works.exit.now.lanes ≡ vec_len works.entry.now.lanes) }
+        requires { G.ready side.now × (length lanes.now ≡ vec_len works.now.lanes) }
+        ensures { G.fed side.entry.now side.exit.now
+            × HaveServed L.ran U.ran lanes.entry.now lanes.exit.now
+            stream.entry.now stream.exit.now works.entry.now works.exit.now }
     {
         desk.start(rt);
-        run_beside(rt, row, works, lanes, stream, mapper, side);
+        run_beside(rt, works, lanes, stream, side);
     };
-    run_feeders(rt, desk, first, feed, feeders, &mut inner, feeds);
+    run_feeders(rt, &mut loan.readers, more, &mut inner);
 }

@@ -50,7 +50,8 @@ impl<'a, F: FnMut(bool)> Job for There<'a, F> {
 
     ghost can_run = { λ t. (alone : Bool) → F.pre t.f.now alone };
 
-    ghost gives = { λ t r. (alone : Bool) × (r.ghost_name ≡ t.f.ghost_name) × F.step t.f.now alone tt r.now };
+    ghost gives = { λ t r. (alone : Bool)
+        × (r.ghost_name ≡ t.f.ghost_name) × F.step t.f.now alone tt r.now };
 
     fn run(self, alone: bool) -> &'a mut F {
         let There { f } = self;

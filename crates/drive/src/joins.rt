@@ -1,7 +1,7 @@
 //! All lanes at once, each with its worker, and their closing looks one after the other.
 ghost use Rattle.std.specs.Prelude.{◌≡◌, ◌∷◌, [], length, vec_len, vec_capacity};
 ghost use Rattle.std.specs.Thread.{IsSync, IsSend};
-ghost use Rattle.drive.specs.All.{AllRan, MayRan};
+ghost use Rattle.drive.specs.All.{AllRan, HaveRun, MayRan};
 
 use crate::fork::join_both;
 use crate::lane::{Closes, Runs};
@@ -50,7 +50,7 @@ fn run_last<W: Sync, H: Drop + Send, T: Runs<W, H> + Send, R: Threads + Wait + S
     let mut others = ||
         requires { IsSync R.row × IsSend T.row × IsSend H.row × IsSync W.row
             × (length rest.now ≡ vec_len works.now) }
-        ensures { AllRan T.ran rest.entry.now rest.exit.now works.entry.now.items works.exit.now.items × (vec_len works.exit.now ≡ vec_len works.entry.now) × (vec_capacity works.exit.now ≡ vec_capacity works.entry.now) }
+        ensures { HaveRun T.ran rest.entry.now rest.exit.now works.entry.now works.exit.now }
     { run_all(rt, row, works, rest) };
     let mut one = ||
         requires { length last.now ≡ 1 }

@@ -1,5 +1,6 @@
 //! A lane with its worker: its turns, and its closing look.
 ghost use Rattle.std.specs.Prelude.{◌≡◌, ℕ};
+ghost use Rattle.past_log.specs.Notes.{no_notes};
 ghost use Rattle.name_workers.specs.Moments.{eyes_of};
 ghost use Rattle.drive.specs.Closing.{IsClosing, shut};
 
@@ -7,6 +8,7 @@ use lane_model::Ended;
 use map_cell::{CellFault, Door, Naming, Note, NoteRow, RowNotes};
 use name_workers::{Worker, serve_port};
 use outside::{Gate, Port};
+use past_log::NotesPast;
 use published_map::MapVersion;
 use std::marker::Model;
 
@@ -19,8 +21,8 @@ pub struct Lane<P: Port, G: Gate, D: Door> {
     pub gate: G,
     /// The worker's way to the maps.
     pub door: D,
-    /// How many notes the worker was given that served it last.
-    pub noted: u64,
+    /// The notes that the worker was given that served it last.
+    pub notes: NotesPast,
 }
 
 impl<P: Port, G: Gate, D: Door> Model for Lane<P, G, D> {
@@ -37,7 +39,7 @@ impl<P: Port, G: Gate, D: Door> Model for Lane<P, G, D> {
       looks = (D.told l.door).looks;
       greatest = (D.told l.door).greatest;
       door_faults = (D.told l.door).faults;
-      noted = l.noted;
+      notes = l.notes.told;
     } };
 }
 
@@ -53,14 +55,14 @@ impl<P: Port, G: Gate, D: Door> Lane<P, G, D> {
           looks = (D.told door).looks;
           greatest = (D.told door).greatest;
           door_faults = (D.told door).faults;
-          noted = 0;
+          notes = no_notes;
         } }
     {
         Lane {
             port,
             gate,
             door,
-            noted: 0,
+            notes: NotesPast::new(),
         }
     }
 }
@@ -71,13 +73,6 @@ pub(crate) struct LaneWorker<J: Naming> {
     pub worker: Worker<J>,
     pub turns: u64,
     pub ended: Ended,
-}
-
-/// The workers of a drive: one for each lane, and one for conversations, if they are to be answered.
-#[derive(Drop)]
-pub(crate) struct Workers<H> {
-    pub lanes: Vec<H>,
-    pub stream: Option<H>,
 }
 
 /// How a lane ended whose closing look was refused.
@@ -146,16 +141,18 @@ pub(crate) trait Closes<N, H> {
 }
 
 impl<J: Naming, P: Port, G: Gate, D: Door> Runs<NoteRow<J>, LaneWorker<J>> for Lane<P, G, D> {
-    ghost use Rattle.std.specs.Prelude.{◌≡◌, ◌≤◌, ℕ};
+    ghost use Rattle.std.specs.Prelude.{◌≡◌, ◌≤◌, length};
     ghost use Rattle.outside.specs.Limits.{most_notes};
+    ghost use Rattle.past_log.specs.Notes.{no_notes};
+    ghost use Rattle.map_cell.specs.Rows.{AreFirst};
     ghost use Rattle.lane_model.specs.Calls.{IsLaneCall};
     ghost use Rattle.lane_model.specs.Replies.{replies};
-    ghost use Rattle.drive.specs.Told.{all_notes, moment_at, notes_behind};
+    ghost use Rattle.drive.specs.Told.{moment_at};
 
-    ghost ran = { λ a b v w. (nones : ℕ) × IsLaneCall replies v.worker.number v.turns
-        (moment_at a v.worker.viewer all_notes v.worker.count)
-        (moment_at b w.worker.viewer (notes_behind b.noted nones) w.worker.count)
-        w.ended × (b.noted ≤ most_notes) × (b.asked ≡ a.asked) };
+    ghost ran = { λ a b v w. AreFirst b.notes × IsLaneCall replies v.worker.number v.turns
+        (moment_at a v.worker.viewer no_notes v.worker.count)
+        (moment_at b w.worker.viewer b.notes w.worker.count)
+        w.ended × (length b.notes.given ≤ most_notes) × (b.asked ≡ a.asked) };
 
     fn run(&mut self, row: &NoteRow<J>, work: &mut LaneWorker<J>) {
         let mut notes = RowNotes::over(row);
@@ -167,7 +164,7 @@ impl<J: Naming, P: Port, G: Gate, D: Door> Runs<NoteRow<J>, LaneWorker<J>> for L
             &mut notes,
             work.turns,
         );
-        self.noted = notes.given() as u64;
+        self.notes = notes.into_past();
     }
 }
 
@@ -179,7 +176,7 @@ impl<J: Naming, P: Port, G: Gate, D: Door> Closes<Note<J>, LaneWorker<J>> for La
     ghost closed = { λ note a b v w.
         IsClosing note.front (eyes_at v.worker.viewer a) (eyes_at w.worker.viewer b) v.ended w.ended
         × (b.port ≡ a.port) × (b.port_faults ≡ a.port_faults) × (b.gate ≡ a.gate)
-        × (b.asked ≡ a.asked) × (b.noted ≡ a.noted) × (b.gate_faults ≡ a.gate_faults) };
+        × (b.asked ≡ a.asked) × (b.notes ≡ a.notes) × (b.gate_faults ≡ a.gate_faults) };
 
     fn close(&mut self, note: &Note<J>, work: &mut LaneWorker<J>) {
         work.ended = close_lane(&mut work.worker, &mut self.door, note, work.ended);

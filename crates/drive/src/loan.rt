@@ -1,48 +1,89 @@
 //! All that a drive is lent: one value, made once, which goes through its functions.
+ghost use Rattle.std.specs.Prelude.{◌≡◌};
+ghost use Rattle.map_cell.specs.Histories.{IsHistory};
 
 use crate::beside::Feeds;
 use crate::feeders::{Fresh, Sends, Starts};
 use crate::start_signal::StartSignal;
 use demand_feed::FeedEnd;
 use feed_queue::{Feeder, Numbers, Taker};
-use map_cell::{Naming, NoteRow};
-use mapper::Mapper;
+use map_cell::{Naming, Note, NoteRow};
+use mapper::{Mapper, Outputs, Told};
 use outside::{Pace, Sink, Source};
 use std::sync::{Arc, Wait};
 use topology_text::Topology;
 
-/// What the mapper's side is lent: the feed, both outputs and the pace; and the number of turns, and how the feed ended.
+/// What the mapper's side is lent: the mapper, the feed, both outputs and the pace; and the number of turns, how the feed
+/// ended, and of how many maps the row of notes told then.
 #[derive(Drop)]
-pub(crate) struct FeedLoan<'f, 'o, 'm, 'p, S, K, M> {
+pub(crate) struct FeedLoan<'x, 'f, 'o, 'm, 'p, J: Naming, S, K, M> {
+    pub mapper: &'x mut Mapper<J>,
     pub feed: &'f mut S,
     pub out: &'o mut K,
     pub maps: &'m mut K,
     pub pace: &'p mut M,
     pub turns: u64,
     pub end: FeedEnd,
+    pub told: Told,
 }
 
 /// What both sides are lent: the mapper's, and the lanes that have workers.
 #[derive(Drop)]
-pub(crate) struct Loan<'f, 'o, 'm, 'p, 'l, S, K, M, T> {
-    pub side: FeedLoan<'f, 'o, 'm, 'p, S, K, M>,
-    pub lanes: &'l mut [T],
+pub(crate) struct Loan<'x, 'f, 'o, 'm, 'p, 'l, J: Naming, S, K, M, L> {
+    pub side: FeedLoan<'x, 'f, 'o, 'm, 'p, J, S, K, M>,
+    pub lanes: &'l mut [L],
 }
 
-impl<J: Naming, S: Source, K: Sink, M: Pace> Feeds<NoteRow<J>, Mapper<J>>
-    for FeedLoan<'_, '_, '_, '_, S, K, M> {
+/// Of how many maps the row of notes tells by what a run was lent.
+fn told_by<K, M>(to: &Outputs<'_, '_, '_, K, M>) -> Told
+    ensures { result ≡ to.now.told }
+{
+    to.told
+}
+
+impl<J: Naming, S, K, M> FeedLoan<'_, '_, '_, '_, '_, J, S, K, M> {
+    /// Of how many maps the row of notes tells.
+    pub fn told(&self) -> Told
+        ensures { result ≡ self.now.told }
+    {
+        self.told
+    }
+
+    /// The note of the newest map.
+    pub fn note(&self) -> Note<J>
+        ensures note { result.front ≡ self.now.mapper.now.history }
+        ensures history { IsHistory self.now.mapper.now.history }
+    {
+        let note = self.mapper.note();
+        // tells the prover what the type keeps
+        let _ = note.front.len();
+        note
+    }
+}
+
+impl<J: Naming, S: Source, K: Sink, M: Pace> Feeds<NoteRow<J>>
+    for FeedLoan<'_, '_, '_, '_, '_, J, S, K, M> {
     ghost use Rattle.std.specs.Prelude.{◌<◌, ◌≤◌, ◌^◌};
     ghost use Rattle.demand_feed.specs.declared.limits.TheConstants.{MOST_TURNS};
     ghost use Rattle.drive.specs.Fed.{IsFedBy};
 
-    ghost ready = { λ l m. (l.turns ≤ MOST_TURNS) × (m.newest.serial < 2 ^ 63) };
+    ghost ready = { λ l. (l.turns ≤ MOST_TURNS) × (l.mapper.now.newest.serial < 2 ^ 63) };
 
-    ghost fed = { λ a b m n. IsFedBy S.told K.told M.told a b m n };
+    ghost fed = { λ a b. IsFedBy S.told K.told M.told a b };
 
-    fn run_feed<R: Wait>(&mut self, rt: &R, mapper: &mut Mapper<J>, row: &NoteRow<J>) {
-        self.end = mapper.run_feed(
-            rt, self.feed, self.out, self.maps, self.pace, row, self.turns,
-        );
+    fn run_feed<R: Wait>(&mut self, rt: &R, row: &NoteRow<J>) {
+        let mut told = Told::of_none();
+        told.tell(rt, row, self.note());
+        let mut to = Outputs {
+            out: self.out,
+            maps: self.maps,
+            pace: self.pace,
+            told,
+        };
+        self.end = self
+            .mapper
+            .run_feed(rt, self.feed, &mut to, row, self.turns);
+        self.told = told_by(&to);
     }
 }
 
@@ -77,7 +118,7 @@ impl<N: Numbers, S: Source> Sends<Desk, Feeder<N>> for S {
         × (length (arc_value desk.topology).market.nodes ≡ N.nodes) };
 
     ghost sent = { λ desk a b f g.
-        IsRead (arc_value desk.topology) desk.turns (S.told a).past (S.told b).past (S.told a).faults (S.told b).faults f g };
+        IsRead (arc_value desk.topology) desk.turns (S.told a) (S.told b) f g };
 
     fn send<R: Wait>(&mut self, rt: &R, desk: &Desk, feeder: &mut Feeder<N>, alone: bool) {
         if desk.start.may_read(rt, alone) {
@@ -88,10 +129,11 @@ impl<N: Numbers, S: Source> Sends<Desk, Feeder<N>> for S {
     }
 }
 
-/// What the mapper's side is lent where several feeders read: who takes what they send, both outputs and the pace; and how
-/// the feeds ended.
+/// What the mapper's side is lent where several feeders read: the mapper, who takes what they send, both outputs and the
+/// pace; and how the feeds ended.
 #[derive(Drop)]
-pub(crate) struct TakerLoan<'t, 'o, 'm, 'p, N: Numbers, K, M> {
+pub(crate) struct TakerLoan<'x, 't, 'o, 'm, 'p, J: Naming, N: Numbers, K, M> {
+    pub mapper: &'x mut Mapper<J>,
     pub taker: &'t mut Taker<N>,
     pub out: &'o mut K,
     pub maps: &'m mut K,
@@ -99,18 +141,39 @@ pub(crate) struct TakerLoan<'t, 'o, 'm, 'p, N: Numbers, K, M> {
     pub end: FeedEnd,
 }
 
-impl<J: Naming, N: Numbers, K: Sink, M: Pace> Feeds<NoteRow<J>, Mapper<J>>
-    for TakerLoan<'_, '_, '_, '_, N, K, M> {
+impl<J: Naming, N: Numbers, K, M> TakerLoan<'_, '_, '_, '_, '_, J, N, K, M> {
+    /// The note of the newest map.
+    pub fn note(&self) -> Note<J>
+        ensures note { result.front ≡ self.now.mapper.now.history }
+        ensures history { IsHistory self.now.mapper.now.history }
+    {
+        let note = self.mapper.note();
+        // tells the prover what the type keeps
+        let _ = note.front.len();
+        note
+    }
+}
+
+impl<J: Naming, N: Numbers, K: Sink, M: Pace> Feeds<NoteRow<J>>
+    for TakerLoan<'_, '_, '_, '_, '_, J, N, K, M> {
     ghost use Rattle.std.specs.Prelude.{◌≡◌, ◌<◌, ◌^◌, [], length};
     ghost use Rattle.drive.specs.Fed.{AreWorked};
 
-    ghost ready = { λ l m. (length m.newest.plan.market.groups ≡ N.groups)
-        × (length m.newest.plan.market.nodes ≡ N.nodes)
-        × (m.newest.serial < 2 ^ 63) × (l.taker.now.taken ≡ []) };
+    ghost ready = { λ l. (length l.mapper.now.newest.plan.market.groups ≡ N.groups)
+        × (length l.mapper.now.newest.plan.market.nodes ≡ N.nodes)
+        × (l.mapper.now.newest.serial < 2 ^ 63) × (l.taker.now.taken ≡ []) };
 
-    ghost fed = { λ a b m n. AreWorked K.told M.told a b m n };
+    ghost fed = { λ a b. AreWorked K.told M.told a b };
 
-    fn run_feed<R: Wait>(&mut self, rt: &R, mapper: &mut Mapper<J>, row: &NoteRow<J>) {
-        self.end = mapper.run_feeds(rt, self.taker, self.out, self.maps, self.pace, row);
+    fn run_feed<R: Wait>(&mut self, rt: &R, row: &NoteRow<J>) {
+        let mut told = Told::of_none();
+        told.tell(rt, row, self.note());
+        let mut to = Outputs {
+            out: self.out,
+            maps: self.maps,
+            pace: self.pace,
+            told,
+        };
+        self.end = self.mapper.run_feeds(rt, self.taker, &mut to, row);
     }
 }

@@ -1,9 +1,11 @@
 //! A lane for conversations with its worker: its turns, and its closing look.
 ghost use Rattle.std.specs.Prelude.{◌≡◌};
+ghost use Rattle.past_log.specs.Notes.{no_notes};
 
 use crate::lane::{Closes, LaneWorker, Runs, close_lane};
 use map_cell::{Door, Naming, Note, NoteRow, RowNotes};
 use outside::{Gate, Streams};
+use past_log::NotesPast;
 use std::marker::Model;
 use tcp_lane::serve_streams;
 
@@ -16,8 +18,8 @@ pub struct StreamLane<Q: Streams, G: Gate, D: Door> {
     pub gate: G,
     /// The worker's way to the maps.
     pub door: D,
-    /// How many notes the worker was given that served it last.
-    pub noted: u64,
+    /// The notes that the worker was given that served it last.
+    pub notes: NotesPast,
 }
 
 impl<Q: Streams, G: Gate, D: Door> Model for StreamLane<Q, G, D> {
@@ -34,7 +36,7 @@ impl<Q: Streams, G: Gate, D: Door> Model for StreamLane<Q, G, D> {
       looks = (D.told l.door).looks;
       greatest = (D.told l.door).greatest;
       door_faults = (D.told l.door).faults;
-      noted = l.noted;
+      notes = l.notes.told;
     } };
 }
 
@@ -50,30 +52,32 @@ impl<Q: Streams, G: Gate, D: Door> StreamLane<Q, G, D> {
           looks = (D.told door).looks;
           greatest = (D.told door).greatest;
           door_faults = (D.told door).faults;
-          noted = 0;
+          notes = no_notes;
         } }
     {
         StreamLane {
             streams,
             gate,
             door,
-            noted: 0,
+            notes: NotesPast::new(),
         }
     }
 }
 
 impl<J: Naming, Q: Streams, G: Gate, D: Door> Runs<NoteRow<J>, LaneWorker<J>>
     for StreamLane<Q, G, D> {
-    ghost use Rattle.std.specs.Prelude.{◌≡◌, ◌≤◌, ℕ};
+    ghost use Rattle.std.specs.Prelude.{◌≡◌, ◌≤◌, length};
     ghost use Rattle.outside.specs.Limits.{most_notes};
+    ghost use Rattle.past_log.specs.Notes.{no_notes};
+    ghost use Rattle.map_cell.specs.Rows.{AreFirst};
     ghost use Rattle.tcp_lane.specs.Calls.{IsStreamCall};
     ghost use Rattle.tcp_lane.specs.Replies.{stream_replies};
-    ghost use Rattle.drive.specs.Told.{all_notes, notes_behind, stream_moment_at};
+    ghost use Rattle.drive.specs.Told.{stream_moment_at};
 
-    ghost ran = { λ a b v w. (nones : ℕ) × IsStreamCall stream_replies v.worker.number v.turns
-        (stream_moment_at a v.worker.viewer all_notes v.worker.count)
-        (stream_moment_at b w.worker.viewer (notes_behind b.noted nones) w.worker.count)
-        w.ended × (b.noted ≤ most_notes) × (b.asked ≡ a.asked) };
+    ghost ran = { λ a b v w. AreFirst b.notes × IsStreamCall stream_replies v.worker.number v.turns
+        (stream_moment_at a v.worker.viewer no_notes v.worker.count)
+        (stream_moment_at b w.worker.viewer b.notes w.worker.count)
+        w.ended × (length b.notes.given ≤ most_notes) × (b.asked ≡ a.asked) };
 
     fn run(&mut self, row: &NoteRow<J>, work: &mut LaneWorker<J>) {
         let mut notes = RowNotes::over(row);
@@ -85,7 +89,7 @@ impl<J: Naming, Q: Streams, G: Gate, D: Door> Runs<NoteRow<J>, LaneWorker<J>>
             &mut notes,
             work.turns,
         );
-        self.noted = notes.given() as u64;
+        self.notes = notes.into_past();
     }
 }
 
@@ -98,7 +102,7 @@ impl<J: Naming, Q: Streams, G: Gate, D: Door> Closes<Note<J>, LaneWorker<J>>
     ghost closed = { λ note a b v w.
         IsClosing note.front (eyes_at v.worker.viewer a) (eyes_at w.worker.viewer b) v.ended w.ended
         × (b.port ≡ a.port) × (b.port_faults ≡ a.port_faults) × (b.gate ≡ a.gate)
-        × (b.asked ≡ a.asked) × (b.noted ≡ a.noted) × (b.gate_faults ≡ a.gate_faults) };
+        × (b.asked ≡ a.asked) × (b.notes ≡ a.notes) × (b.gate_faults ≡ a.gate_faults) };
 
     fn close(&mut self, note: &Note<J>, work: &mut LaneWorker<J>) {
         work.ended = close_lane(&mut work.worker, &mut self.door, note, work.ended);

@@ -1,26 +1,26 @@
 //! A drive: what it takes ahead of the first lane, its run, and its ends.
-ghost use Rattle.std.specs.Prelude.{◌≡◌, ◌≢◌, ◌+◌, ◌≤◌, ◌∷◌, [], List, All, IfOk, IfSome, OnErr, drop, length, map, option_map, vec_len};
+ghost use Rattle.std.specs.Prelude.{◌≡◌, ◌≢◌, ◌+◌, ◌≤◌, ◌∷◌, [], List, All, IfOk, IfSome, IsSome, OnErr, drop, length, map, option_map, vec_len};
 ghost use Rattle.std.specs.Arc.{arc_value};
 ghost use Rattle.std.specs.Option.{option_to_list};
 ghost use Rattle.demand_feed.specs.declared.limits.TheConstants.{MOST_TURNS};
 ghost use Rattle.published_map.specs.Version.{Version};
 ghost use Rattle.map_cell.specs.Histories.{IsHistory};
 ghost use Rattle.lane_model.specs.declared.ended.Ended.{Ended};
-ghost use Rattle.drive.specs.AllDone.{AllDone, AllHeld, IsFresh};
-ghost use Rattle.drive.specs.Counted.{AreCounted, counts_of};
-ghost use Rattle.drive.specs.Done.{IsDone};
+ghost use Rattle.mapper.specs.Notes.{AreTold};
+ghost use Rattle.drive.specs.AllDone.{AllHeld, AreServed, IsAtFirst, IsFresh};
+ghost use Rattle.drive.specs.Counted.{AreCounted};
 ghost use Rattle.drive.specs.All.{AllRan};
 ghost use Rattle.drive.specs.Driven.{AreEnds, IsDriven};
 ghost use Rattle.drive.specs.Fed.{AreWorked, IsFedBy};
 ghost use Rattle.drive.specs.Queue.{IsFeedQueue};
 ghost use Rattle.drive.specs.Read.{IsRead};
-ghost use Rattle.drive.specs.Streams.{AreStreamsDone};
+ghost use Rattle.drive.specs.Readers.{IsSameReaders};
 ghost use Rattle.drive.specs.Told.{AreUntouched, IsSameLent, lent_of};
 
-use crate::beside::run_beside;
-use crate::feeders::run_among;
+use crate::beside::{Workers, run_beside};
+use crate::feeders::{Readers, SeveralLoan, run_among};
 use crate::joins::{close_all, close_more};
-use crate::lane::{Lane, LaneWorker, Workers};
+use crate::lane::{Lane, LaneWorker};
 use crate::lent::Lent;
 use crate::loan::{Desk, FeedLoan, Loan, TakerLoan};
 use crate::queue::{FeedQueue, all_back, open_queue};
@@ -29,8 +29,8 @@ use crate::threads::can_fork;
 use demand_feed::FeedEnd;
 use feed_queue::{Feeder, Numbers};
 use lane_model::Ended;
-use map_cell::{Door, MOST_VIEWERS, Naming, NoteRow, Viewer};
-use mapper::Mapper;
+use map_cell::{Door, MOST_VIEWERS, Naming, Note, NoteRow, Viewer};
+use mapper::{Mapper, Told};
 use name_workers::Worker;
 use no_memory::NoMemory;
 use outside::{Gate, Pace, Port, Sink, Source, Streams};
@@ -48,6 +48,8 @@ pub struct DriveEnd {
     pub lanes: [Option<Ended>; MOST_VIEWERS],
     /// How the lane for conversations ended, if it had a viewer.
     pub stream: Option<Ended>,
+    /// Of one feed: of how many maps, from the first one on, the row of notes that all lanes read holds a note at the end.
+    pub told: Option<Told>,
 }
 
 /// A worker for each viewer, numbered from 0 on, of so many turns.
@@ -114,14 +116,8 @@ fn ends_of<J: Naming>(works: &Vec<LaneWorker<J>>) -> [Option<Ended>; MOST_VIEWER
     ends
 }
 
-/// What a drive takes ahead of the first lane, but for a queue: the row of notes, and the workers.
-#[derive(Drop)]
-struct Prepared<J: Naming> {
-    row: NoteRow<J>,
-    works: Workers<LaneWorker<J>>,
-}
-
-/// Takes memory, and tries whether as many threads can be had as the lanes and so many feeders need.
+/// Takes what a drive needs ahead of the first lane, but for a queue: the row of notes, and the workers. It tries whether
+/// as many threads can be had as the lanes and so many feeders need.
 fn prepare<J: Naming, R: Threads>(
     rt: &R,
     alloc: Global,
@@ -129,18 +125,18 @@ fn prepare<J: Naming, R: Threads>(
     listener: Option<Viewer<J>>,
     feeders: usize,
     turns: u64,
-) -> Result<Prepared<J>, NoMemory>
+) -> Result<Workers<NoteRow<J>, LaneWorker<J>>, NoMemory>
     requires few { vec_len viewers ≤ 16 }
     requires feeders { feeders ≤ 4 }
-    ensures len { IfOk result (λ r. vec_len r.works.lanes ≡ vec_len viewers) }
+    ensures len { IfOk result (λ r. vec_len r.lanes ≡ vec_len viewers) }
     ensures held { (h : List Version) → All (λ e. (e.seen ≡ h) × (e.heard ≡ h)) viewers.items
         → IfOk result
-        (λ r. AllHeld (IsFresh h turns) 0 r.works.lanes.items) }
+        (λ r. AllHeld (IsFresh h turns) 0 r.lanes.items) }
     ensures listener { (h : List Version) → IfSome listener (λ e. (e.seen ≡ h) × (e.heard ≡ h))
         → IfOk result
-        (λ r. IfSome r.works.stream (IsFresh h turns (vec_len viewers))) }
+        (λ r. IfSome r.stream (IsFresh h turns (vec_len viewers))) }
     ensures same { IfOk result
-        (λ r. length (option_to_list r.works.stream) ≡ length (option_to_list listener)) }
+        (λ r. length (option_to_list r.stream) ≡ length (option_to_list listener)) }
 {
     let count = viewers.len();
     let row = NoteRow::new(alloc)?;
@@ -152,14 +148,16 @@ fn prepare<J: Naming, R: Threads>(
     if !can_fork(rt, alloc, threads) {
         return Err(NoMemory);
     }
-    Ok(Prepared {
-        row,
-        works: Workers { lanes, stream },
-    })
+    Ok(Workers { row, lanes, stream })
+}
+
+/// Hands on the first map's note, which the row keeps for all lanes.
+fn hand_on<J: Naming, R: Wait>(rt: &R, row: &NoteRow<J>, note: Note<J>) {
+    let _ = row.put_at(rt, 0, note);
 }
 
 /// Hands on the first map's note, runs the feed beside the lanes, and then makes the closing look of each. What is lent
-/// stays lent.
+/// stays lent. It answers of how many maps the row of notes tells then.
 fn serve_all<
     J: Naming + Send + Sync,
     S: Source,
@@ -172,41 +170,35 @@ fn serve_all<
     R: Threads + Wait + Sync,
 >(
     rt: &R,
-    row: &NoteRow<J>,
-    mapper: &mut Mapper<J>,
-    works: &mut Workers<LaneWorker<J>>,
-    loan: &mut Loan<'_, '_, '_, '_, '_, S, K, M, Lane<P, G, D>>,
+    works: &mut Workers<NoteRow<J>, LaneWorker<J>>,
+    loan: &mut Loan<'_, '_, '_, '_, '_, '_, J, S, K, M, Lane<P, G, D>>,
     stream: &mut StreamLane<Q, G, D>,
-)
+) -> Told
     requires turns { loan.old.side.turns ≤ MOST_TURNS }
-    requires first { (mapper.old.history ≡ mapper.old.newest ∷ [])
-        × (mapper.old.newest.serial ≡ 0) }
-    requires fresh { AllHeld
-        (IsFresh mapper.old.history loan.old.side.turns) 0 works.old.lanes.items }
+    requires first { IsAtFirst loan.old.side.mapper.now }
+    requires fresh { AllHeld (IsFresh loan.old.side.mapper.now.history loan.old.side.turns)
+        0 works.old.lanes.items }
     requires lanes { length loan.old.lanes.now ≡ vec_len works.old.lanes }
     requires listener { IfSome works.old.stream
-        (IsFresh mapper.old.history loan.old.side.turns (vec_len works.old.lanes)) }
-    ensures fed { IsFedBy S.told K.told M.told
-        loan.old.side loan.new.side mapper.old mapper.new }
+        (IsFresh loan.old.side.mapper.now.history loan.old.side.turns (vec_len works.old.lanes)) }
+    ensures fed { IsFedBy S.told K.told M.told loan.old.side loan.new.side }
     ensures lanes { loan.new.lanes.ghost_name ≡ loan.old.lanes.ghost_name }
-    ensures history { IsHistory mapper.new.history }
+    ensures history { IsHistory loan.new.side.mapper.now.history }
     ensures len { vec_len works.new.lanes ≡ vec_len works.old.lanes }
-    ensures done { (rest : List Version) × (mapper.new.history ≡ mapper.old.newest ∷ rest)
-        × AllDone (λ i l k w. IsDone loan.old.side.turns mapper.old.newest rest i
-        l k w.ended) 0 loan.old.lanes.now loan.new.lanes.now works.new.lanes.items
-        × AreStreamsDone loan.old.side.turns mapper.old.newest rest (vec_len works.old.lanes)
-        (option_map (λ w. w.ended) works.new.stream)
-        stream.old stream.new }
+    ensures done { (rest : List Version)
+        × (loan.new.side.mapper.now.history ≡ loan.old.side.mapper.now.newest ∷ rest)
+        × AreServed loan.old.side.turns loan.old.side.mapper.now.newest rest
+        loan.old.lanes.now loan.new.lanes.now stream.old stream.new works.new }
     ensures same { length (option_to_list works.new.stream) ≡ length
         (option_to_list works.old.stream) }
+    ensures told { result ≡ loan.new.side.told }
 {
-    let _ = row.put_at(rt, 0, mapper.note());
-    run_beside(rt, row, works, loan.lanes, stream, mapper, &mut loan.side);
-    let note = mapper.note();
-    // tells the prover what the type keeps
-    let _ = note.front.len();
+    hand_on(rt, &works.row, loan.side.note());
+    run_beside(rt, works, loan.lanes, stream, &mut loan.side);
+    let note = loan.side.note();
     close_all(&note, &mut works.lanes, loan.lanes);
     close_more(&note, &mut works.stream, stream);
+    loan.side.told()
 }
 
 /// Hands on the first map's note, runs the feeders and the mapper's side beside the lanes, and then makes the closing look
@@ -225,58 +217,65 @@ fn serve_several<
     R: Threads + Wait + Sync,
 >(
     rt: &R,
-    desk: &Desk,
-    first: &mut Feeder<N>,
-    feed: &mut S,
-    feeders: &mut Vec<Feeder<N>>,
-    more: &mut [T],
-    row: &NoteRow<J>,
-    mapper: &mut Mapper<J>,
-    works: &mut Workers<LaneWorker<J>>,
-    side: &mut TakerLoan<'_, '_, '_, '_, N, K, M>,
-    lanes: &mut [Lane<P, G, D>],
+    works: &mut Workers<NoteRow<J>, LaneWorker<J>>,
+    loan: &mut SeveralLoan<
+        '_,
+        '_,
+        '_,
+        '_,
+        '_,
+        '_,
+        Desk,
+        Feeder<N>,
+        S,
+        T,
+        TakerLoan<'_, '_, '_, '_, '_, J, N, K, M>,
+        Lane<P, G, D>,
+    >,
     stream: &mut StreamLane<Q, G, D>,
 )
-    requires turns { desk.now.turns ≤ MOST_TURNS }
-    requires groups { (length (arc_value desk.now.topology).market.groups ≡ N.groups)
-        × (length mapper.old.newest.plan.market.groups ≡ N.groups) }
-    requires nodes { (length (arc_value desk.now.topology).market.nodes ≡ N.nodes)
-        × (length mapper.old.newest.plan.market.nodes ≡ N.nodes) }
-    requires unused { (first.old.sent ≡ []) × All (λ f. f.sent ≡ []) feeders.old.items
-        × (side.old.taker.now.taken ≡ []) }
-    requires feeds { length more.old ≡ vec_len feeders.old }
-    requires first { (mapper.old.history ≡ mapper.old.newest ∷ [])
-        × (mapper.old.newest.serial ≡ 0) }
-    requires fresh { AllHeld (IsFresh mapper.old.history desk.now.turns) 0 works.old.lanes.items }
-    requires lanes { length lanes.old ≡ vec_len works.old.lanes }
-    requires listener { IfSome works.old.stream
-        (IsFresh mapper.old.history desk.now.turns (vec_len works.old.lanes)) }
-    ensures first { IsRead (arc_value desk.now.topology) desk.now.turns (S.told feed.old).past
-        (S.told feed.new).past (S.told feed.old).faults (S.told feed.new).faults first.old first.new }
-    ensures sent { AllRan
-        (λ a b f g. IsRead (arc_value desk.now.topology) desk.now.turns (T.told a).past (T.told b).past
-        (T.told a).faults (T.told b).faults f g) more.old more.new feeders.old.items feeders.new.items }
-    ensures worked { AreWorked K.told M.told side.old side.new mapper.old mapper.new }
-    ensures history { IsHistory mapper.new.history }
+    requires turns { loan.old.readers.desk.now.turns ≤ MOST_TURNS }
+    requires groups { (length (arc_value loan.old.readers.desk.now.topology).market.groups
+        ≡ N.groups)
+        × (length loan.old.side.mapper.now.newest.plan.market.groups ≡ N.groups) }
+    requires nodes { (length (arc_value loan.old.readers.desk.now.topology).market.nodes ≡ N.nodes)
+        × (length loan.old.side.mapper.now.newest.plan.market.nodes ≡ N.nodes) }
+    requires unused { (loan.old.readers.first.now.sent ≡ [])
+        × All (λ f. f.sent ≡ []) loan.old.readers.feeders.now.items
+        × (loan.old.side.taker.now.taken ≡ []) }
+    requires feeds { length loan.old.more.now ≡ vec_len loan.old.readers.feeders.now }
+    requires first { IsAtFirst loan.old.side.mapper.now }
+    requires fresh { AllHeld
+        (IsFresh loan.old.side.mapper.now.history loan.old.readers.desk.now.turns)
+        0 works.old.lanes.items }
+    requires lanes { length loan.old.lanes.now ≡ vec_len works.old.lanes }
+    requires listener { IfSome works.old.stream (IsFresh loan.old.side.mapper.now.history
+        loan.old.readers.desk.now.turns (vec_len works.old.lanes)) }
+    ensures readers { IsSameReaders loan.old.readers loan.new.readers }
+    ensures first { IsRead (arc_value loan.old.readers.desk.now.topology)
+        loan.old.readers.desk.now.turns (S.told loan.old.readers.feed.now)
+        (S.told loan.new.readers.feed.now) loan.old.readers.first.now loan.new.readers.first.now }
+    ensures sent { AllRan (λ a b f g. IsRead (arc_value loan.old.readers.desk.now.topology)
+        loan.old.readers.desk.now.turns (T.told a) (T.told b) f g)
+        loan.old.more.now loan.new.more.now
+        loan.old.readers.feeders.now.items loan.new.readers.feeders.now.items }
+    ensures worked { AreWorked K.told M.told loan.old.side loan.new.side }
+    ensures names { (loan.new.more.ghost_name ≡ loan.old.more.ghost_name)
+        × (loan.new.lanes.ghost_name ≡ loan.old.lanes.ghost_name) }
+    ensures history { IsHistory loan.new.side.mapper.now.history }
     ensures len { vec_len works.new.lanes ≡ vec_len works.old.lanes }
-    ensures done { (rest : List Version) × (mapper.new.history ≡ mapper.old.newest ∷ rest)
-        × AllDone (λ i l k w. IsDone desk.now.turns mapper.old.newest rest i
-        l k w.ended) 0 lanes.old lanes.new works.new.lanes.items
-        × AreStreamsDone desk.now.turns mapper.old.newest rest (vec_len works.old.lanes)
-        (option_map (λ w. w.ended) works.new.stream)
-        stream.old stream.new }
+    ensures done { (rest : List Version)
+        × (loan.new.side.mapper.now.history ≡ loan.old.side.mapper.now.newest ∷ rest)
+        × AreServed loan.old.readers.desk.now.turns loan.old.side.mapper.now.newest rest
+        loan.old.lanes.now loan.new.lanes.now stream.old stream.new works.new }
     ensures same { length (option_to_list works.new.stream) ≡ length
         (option_to_list works.old.stream) }
 {
-    let _ = row.put_at(rt, 0, mapper.note());
-    run_among(
-        rt, desk, first, feed, feeders, more, row, works, lanes, stream, mapper, side,
-    );
-    let note = mapper.note();
-    // tells the prover what the type keeps
-    let _ = note.front.len();
-    close_all(&note, &mut works.lanes, lanes);
-    close_more(&note, &mut works.stream, stream);
+    hand_on(rt, &works.row, loan.side.note());
+    run_among(rt, loan, works, stream);
+    let newest = loan.side.note();
+    close_all(&newest, &mut works.lanes, loan.lanes);
+    close_more(&newest, &mut works.stream, stream);
 }
 
 /// Drives one feed, as `drive`.
@@ -294,57 +293,64 @@ fn drive_one<
 >(
     rt: &R,
     mapper: Mapper<J>,
-    prepared: Prepared<J>,
+    works: Workers<NoteRow<J>, LaneWorker<J>>,
     lent: &mut Lent<'_, '_, '_, '_, '_, '_, S, T, K, P, G, D, M>,
     stream: &mut StreamLane<Q, G, D>,
 ) -> DriveEnd
     requires serial { mapper.newest.serial ≡ 0 }
     requires turns { lent.old.turns ≤ MOST_TURNS }
-    requires fresh { AllHeld (IsFresh mapper.history lent.old.turns) 0 prepared.works.lanes.items }
-    requires listener { IfSome prepared.works.stream
-        (IsFresh mapper.history lent.old.turns (vec_len prepared.works.lanes)) }
-    requires few { (vec_len prepared.works.lanes ≤ 16)
-        × (vec_len prepared.works.lanes ≤ length lent.old.lanes.now) }
+    requires fresh { AllHeld (IsFresh mapper.history lent.old.turns) 0 works.lanes.items }
+    requires listener { IfSome works.stream
+        (IsFresh mapper.history lent.old.turns (vec_len works.lanes)) }
+    requires few { (vec_len works.lanes ≤ 16)
+        × (vec_len works.lanes ≤ length lent.old.lanes.now) }
     requires one { lent.old.more.now ≡ [] }
     ensures keeps { IsSameLent lent.old lent.new }
-    ensures driven { (ends : List Ended) × (length ends ≡ vec_len prepared.works.lanes)
+    ensures driven { (ends : List Ended) × (length ends ≡ vec_len works.lanes)
         × AreEnds ends result.lanes
-        × IsDriven lent.old.turns mapper.newest result.feed ends result.stream
+        × (d : IsDriven lent.old.turns mapper.newest result.feed ends result.stream
+        (lent_of S.told T.told K.told M.told lent.old stream.old)
+        (lent_of S.told T.told K.told M.told lent.new stream.new))
+        × (result.feed ≢ FeedEnd.SinkFault
+        → IfSome result.told (AreTold (mapper.newest ∷ d.rest))) }
+    ensures told { IsSome result.told }
+    ensures untouched { drop (vec_len works.lanes) lent.new.lanes.now ≡ drop
+        (vec_len works.lanes) lent.old.lanes.now }
+    ensures stream { length (option_to_list result.stream) ≡ length
+        (option_to_list works.stream) }
+    ensures counted { AreCounted result.feed
         (lent_of S.told T.told K.told M.told lent.old stream.old)
         (lent_of S.told T.told K.told M.told lent.new stream.new) }
-    ensures untouched { drop (vec_len prepared.works.lanes) lent.new.lanes.now ≡ drop
-        (vec_len prepared.works.lanes) lent.old.lanes.now }
-    ensures stream { length (option_to_list result.stream) ≡ length
-        (option_to_list prepared.works.stream) }
-    ensures counted { AreCounted result.feed
-        (counts_of S.told T.told K.told lent.old)
-        (counts_of S.told T.told K.told lent.new) }
 {
     let mut mapper = mapper;
     // tells the prover what the type keeps
     let _ = mapper.newest();
-    let Prepared { row, works } = prepared;
     let mut works = works;
     let count = works.lanes.len();
+    let of_none = Told::of_none();
     let lanes = &mut *lent.lanes;
     let (served, _behind) = lanes.split_at_mut(count);
     let mut loan = Loan {
         side: FeedLoan {
+            mapper: &mut mapper,
             feed: lent.feed,
             out: lent.out,
             maps: lent.maps,
             pace: lent.pace,
             turns: lent.turns,
             end: FeedEnd::Ended,
+            told: of_none,
         },
         lanes: served,
     };
-    serve_all(rt, &row, &mut mapper, &mut works, &mut loan, stream);
+    let told = serve_all(rt, &mut works, &mut loan, stream);
+    let end = loan.side.end;
     mapper.close(rt);
     DriveEnd {
-        feed: loan.side.end,
+        feed: end,
         lanes: ends_of(&works.lanes),
         stream: end_of(&works.stream),
+        told: Some(told),
     }
 }
 
@@ -365,37 +371,39 @@ fn drive_several<
     rt: &R,
     queue: FeedQueue<N>,
     mapper: Mapper<J>,
-    prepared: Prepared<J>,
+    works: Workers<NoteRow<J>, LaneWorker<J>>,
     lent: &mut Lent<'_, '_, '_, '_, '_, '_, S, T, K, P, G, D, M>,
     stream: &mut StreamLane<Q, G, D>,
 ) -> DriveEnd
     requires serial { mapper.newest.serial ≡ 0 }
-    requires queue { IsFeedQueue N.groups N.nodes (length lent.old.more.now) mapper.newest.plan queue }
+    requires queue { IsFeedQueue
+        N.groups N.nodes (length lent.old.more.now) mapper.newest.plan queue }
     requires turns { (lent.old.turns ≤ MOST_TURNS) × (queue.desk.turns ≡ lent.old.turns) }
-    requires fresh { AllHeld (IsFresh mapper.history lent.old.turns) 0 prepared.works.lanes.items }
-    requires listener { IfSome prepared.works.stream
-        (IsFresh mapper.history lent.old.turns (vec_len prepared.works.lanes)) }
-    requires few { (vec_len prepared.works.lanes ≤ 16)
-        × (vec_len prepared.works.lanes ≤ length lent.old.lanes.now) }
+    requires fresh { AllHeld (IsFresh mapper.history lent.old.turns) 0 works.lanes.items }
+    requires listener { IfSome works.stream
+        (IsFresh mapper.history lent.old.turns (vec_len works.lanes)) }
+    requires few { (vec_len works.lanes ≤ 16)
+        × (vec_len works.lanes ≤ length lent.old.lanes.now) }
     requires several { lent.old.more.now ≢ [] }
     ensures keeps { IsSameLent lent.old lent.new }
-    ensures driven { (ends : List Ended) × (length ends ≡ vec_len prepared.works.lanes)
+    ensures driven { (ends : List Ended) × (length ends ≡ vec_len works.lanes)
         × AreEnds ends result.lanes
-        × IsDriven lent.old.turns mapper.newest result.feed ends result.stream
+        × (d : IsDriven lent.old.turns mapper.newest result.feed ends result.stream
+        (lent_of S.told T.told K.told M.told lent.old stream.old)
+        (lent_of S.told T.told K.told M.told lent.new stream.new))
+        × (result.feed ≢ FeedEnd.SinkFault
+        → IfSome result.told (AreTold (mapper.newest ∷ d.rest))) }
+    ensures untouched { drop (vec_len works.lanes) lent.new.lanes.now ≡ drop
+        (vec_len works.lanes) lent.old.lanes.now }
+    ensures stream { length (option_to_list result.stream) ≡ length
+        (option_to_list works.stream) }
+    ensures counted { AreCounted result.feed
         (lent_of S.told T.told K.told M.told lent.old stream.old)
         (lent_of S.told T.told K.told M.told lent.new stream.new) }
-    ensures untouched { drop (vec_len prepared.works.lanes) lent.new.lanes.now ≡ drop
-        (vec_len prepared.works.lanes) lent.old.lanes.now }
-    ensures stream { length (option_to_list result.stream) ≡ length
-        (option_to_list prepared.works.stream) }
-    ensures counted { AreCounted result.feed
-        (counts_of S.told T.told K.told lent.old)
-        (counts_of S.told T.told K.told lent.new) }
 {
     let mut mapper = mapper;
     // tells the prover what the type keeps
     let _ = mapper.newest();
-    let Prepared { row, works } = prepared;
     let mut works = works;
     let FeedQueue {
         desk,
@@ -409,34 +417,34 @@ fn drive_several<
     let count = works.lanes.len();
     let lanes = &mut *lent.lanes;
     let (served, _behind) = lanes.split_at_mut(count);
-    let mut side = TakerLoan {
-        taker: &mut taker,
-        out: lent.out,
-        maps: lent.maps,
-        pace: lent.pace,
-        end: FeedEnd::Ended,
+    let more = &mut *lent.more;
+    let mut loan = SeveralLoan {
+        readers: Readers {
+            desk: &desk,
+            first: &mut first,
+            feed: lent.feed,
+            feeders: &mut feeders,
+        },
+        more,
+        side: TakerLoan {
+            mapper: &mut mapper,
+            taker: &mut taker,
+            out: lent.out,
+            maps: lent.maps,
+            pace: lent.pace,
+            end: FeedEnd::Ended,
+        },
+        lanes: served,
     };
-    serve_several(
-        rt,
-        &desk,
-        &mut first,
-        lent.feed,
-        &mut feeders,
-        lent.more,
-        &row,
-        &mut mapper,
-        &mut works,
-        &mut side,
-        served,
-        stream,
-    );
-    let end = side.end;
+    serve_several(rt, &mut works, &mut loan, stream);
+    let ended = loan.side.end;
     all_back(&mut taker, first, feeders);
     mapper.close(rt);
     DriveEnd {
-        feed: end,
+        feed: ended,
         lanes: ends_of(&works.lanes),
         stream: end_of(&works.stream),
+        told: None,
     }
 }
 
@@ -457,7 +465,7 @@ fn drive_with<
     rt: &R,
     alloc: Global,
     mapper: Mapper<J>,
-    prepared: Prepared<J>,
+    works: Workers<NoteRow<J>, LaneWorker<J>>,
     lent: &mut Lent<'_, '_, '_, '_, '_, '_, S, T, K, P, G, D, M>,
     stream: &mut StreamLane<Q, G, D>,
 ) -> Result<DriveEnd, NoMemory>
@@ -465,33 +473,34 @@ fn drive_with<
     requires groups { length mapper.newest.plan.market.groups ≡ N.groups }
     requires nodes { length mapper.newest.plan.market.nodes ≡ N.nodes }
     requires turns { lent.old.turns ≤ MOST_TURNS }
-    requires fresh { AllHeld (IsFresh mapper.history lent.old.turns) 0 prepared.works.lanes.items }
-    requires listener { IfSome prepared.works.stream
-        (IsFresh mapper.history lent.old.turns (vec_len prepared.works.lanes)) }
-    requires few { (vec_len prepared.works.lanes ≤ 16)
-        × (vec_len prepared.works.lanes ≤ length lent.old.lanes.now) }
+    requires fresh { AllHeld (IsFresh mapper.history lent.old.turns) 0 works.lanes.items }
+    requires listener { IfSome works.stream
+        (IsFresh mapper.history lent.old.turns (vec_len works.lanes)) }
+    requires few { (vec_len works.lanes ≤ 16)
+        × (vec_len works.lanes ≤ length lent.old.lanes.now) }
     requires several { (lent.old.more.now ≢ []) × (length lent.old.more.now ≤ 3) }
     ensures keeps { IsSameLent lent.old lent.new }
     ensures driven { IfOk result (λ r. (ends : List Ended)
-        × (length ends ≡ vec_len prepared.works.lanes) × AreEnds ends r.lanes
-        × IsDriven lent.old.turns mapper.newest r.feed ends r.stream
+        × (length ends ≡ vec_len works.lanes) × AreEnds ends r.lanes
+        × (d : IsDriven lent.old.turns mapper.newest r.feed ends r.stream
         (lent_of S.told T.told K.told M.told lent.old stream.old)
-        (lent_of S.told T.told K.told M.told lent.new stream.new)) }
-    ensures untouched { drop (vec_len prepared.works.lanes) lent.new.lanes.now ≡ drop
-        (vec_len prepared.works.lanes) lent.old.lanes.now }
+        (lent_of S.told T.told K.told M.told lent.new stream.new))
+        × (r.feed ≢ FeedEnd.SinkFault → IfSome r.told (AreTold (mapper.newest ∷ d.rest)))) }
+    ensures untouched { drop (vec_len works.lanes) lent.new.lanes.now ≡ drop
+        (vec_len works.lanes) lent.old.lanes.now }
     ensures stream { IfOk result
-        (λ r. length (option_to_list r.stream) ≡ length (option_to_list prepared.works.stream)) }
+        (λ r. length (option_to_list r.stream) ≡ length (option_to_list works.stream)) }
     ensures no_memory { OnErr result (AreUntouched lent.old lent.new × (stream.new ≡ stream.old)) }
     ensures counted { IfOk result (λ r. AreCounted r.feed
-        (counts_of S.told T.told K.told lent.old)
-        (counts_of S.told T.told K.told lent.new)) }
+        (lent_of S.told T.told K.told M.told lent.old stream.old)
+        (lent_of S.told T.told K.told M.told lent.new stream.new)) }
 {
     let count = lent.more.len() as u8;
     let Ok(queue) = open_queue::<N>(alloc, mapper.topology(), count, lent.turns) else {
         mapper.close(rt);
         return Err(NoMemory);
     };
-    Ok(drive_several(rt, queue, mapper, prepared, lent, stream))
+    Ok(drive_several(rt, queue, mapper, works, lent, stream))
 }
 
 /// Who works in a drive: the mapper, a viewer of its maps for each of the first lanes, and one for the lane for conversations,
@@ -560,17 +569,20 @@ pub fn drive<
     ensures keeps { IsSameLent lent.old lent.new }
     ensures driven { IfOk result (λ r. (ends : List Ended) × (length ends ≡ vec_len crew.viewers)
         × AreEnds ends r.lanes
-        × IsDriven lent.old.turns crew.mapper.newest r.feed ends r.stream
+        × (d : IsDriven lent.old.turns crew.mapper.newest r.feed ends r.stream
         (lent_of S.told T.told K.told M.told lent.old stream.old)
-        (lent_of S.told T.told K.told M.told lent.new stream.new)) }
+        (lent_of S.told T.told K.told M.told lent.new stream.new))
+        × (r.feed ≢ FeedEnd.SinkFault
+        → IfSome r.told (AreTold (crew.mapper.newest ∷ d.rest)))) }
+    ensures told { lent.old.more.now ≡ [] → IfOk result (λ r. IsSome r.told) }
     ensures untouched { drop (vec_len crew.viewers) lent.new.lanes.now ≡ drop
         (vec_len crew.viewers) lent.old.lanes.now }
     ensures stream { IfOk result
         (λ r. length (option_to_list r.stream) ≡ length (option_to_list crew.listener)) }
     ensures no_memory { OnErr result (AreUntouched lent.old lent.new × (stream.new ≡ stream.old)) }
     ensures counted { IfOk result (λ r. AreCounted r.feed
-        (counts_of S.told T.told K.told lent.old)
-        (counts_of S.told T.told K.told lent.new)) }
+        (lent_of S.told T.told K.told M.told lent.old stream.old)
+        (lent_of S.told T.told K.told M.told lent.new stream.new)) }
 {
     let Crew {
         mapper,
@@ -579,12 +591,12 @@ pub fn drive<
     } = crew;
     let count = lent.more.len();
     let feeders = if count == 0 { 0 } else { count + 1 };
-    let Ok(prepared) = prepare(rt, alloc, viewers, listener, feeders, lent.turns) else {
+    let Ok(works) = prepare(rt, alloc, viewers, listener, feeders, lent.turns) else {
         mapper.close(rt);
         return Err(NoMemory);
     };
     if count == 0 {
-        return Ok(drive_one::<J, S, T, K, P, Q, G, D, M, R>(rt, mapper, prepared, lent, stream));
+        return Ok(drive_one::<J, S, T, K, P, Q, G, D, M, R>(rt, mapper, works, lent, stream));
     }
-    drive_with::<J, Brand, S, T, K, P, Q, G, D, M, R>(rt, alloc, mapper, prepared, lent, stream)
+    drive_with::<J, Brand, S, T, K, P, Q, G, D, M, R>(rt, alloc, mapper, works, lent, stream)
 }

@@ -34,15 +34,24 @@ const QUERY: &[u8] = &[
     b'x', b'a', b'm', b'p', b'l', b'e', 0, 0, 1, 0, 1,
 ];
 
-/// A feed of one batch, and what is said of it.
-const ONE_BATCH: &[u8] = b"demand g2 4\ncommit\nstop\n";
+/// The lines of a feed, and what is said of them.
+#[derive(Clone, Copy)]
+struct Script {
+    lines: &'static [u8],
+    said: &'static [u8],
+}
 
-const ONE_SAID: &[u8] = b"published 1\n";
+/// A feed of one batch.
+const ONE_BATCH: Script = Script {
+    lines: b"demand g2 4\ncommit\nstop\n",
+    said: b"published 1\n",
+};
 
-/// A feed of two batches, and what is said of it.
-const TWO_BATCHES: &[u8] = b"demand g2 4\ncommit\ndemand g2 5\ncommit\nstop\n";
-
-const TWO_SAID: &[u8] = b"published 1\npublished 2\n";
+/// A feed of two batches.
+const TWO_BATCHES: Script = Script {
+    lines: b"demand g2 4\ncommit\ndemand g2 5\ncommit\nstop\n",
+    said: b"published 1\npublished 2\n",
+};
 
 /// The query, as it comes in.
 fn packet(alloc: Global) -> Option<MemPacket> {
@@ -150,7 +159,16 @@ fn ends_of(alloc: Global, lines: &[u8]) -> Option<Ends> {
     }
 }
 
-/// Drives a topology with so many viewers: how it ended.
+/// What is driven: lanes, of which so many have viewers, the lane for conversations, and the pace.
+#[derive(Drop)]
+struct Driven<'l, 's, 'p, P: Port, G: Gate, D: Door, M> {
+    viewers: u8,
+    lanes: &'l mut [Lane<P, G, D>],
+    stream: &'s mut StreamLane<MemStreams, G, D>,
+    pace: &'p mut M,
+}
+
+/// Drives a topology with these lanes: how it ended.
 fn drive_over<
     J: Naming + Send + Sync,
     P: Port + Send,
@@ -164,14 +182,17 @@ fn drive_over<
     history: EmptyHistory,
     topology: Topology,
     ends: &mut Ends,
-    viewers: u8,
-    lanes: &mut [Lane<P, G, D>],
-    stream: &mut StreamLane<MemStreams, G, D>,
-    pace: &mut M,
+    driven: Driven<'_, '_, '_, P, G, D, M>,
 ) -> Option<DriveEnd>
     requires book { history ≡ J.book }
-    requires few { (viewers ≤ 16) × (viewers ≤ length lanes.old) }
+    requires few { (driven.viewers ≤ 16) × (driven.viewers ≤ length driven.lanes.now) }
 {
+    let Driven {
+        viewers,
+        lanes,
+        stream,
+        pace,
+    } = driven;
     let mut door = PlainDoor::new();
     let mut steps = Steps::<Proposals>::new();
     match Mapper::<J>::open(rt, alloc, history, topology, viewers, &mut door, &mut steps) {
@@ -200,29 +221,25 @@ fn drive_over<
     }
 }
 
-/// Drives a topology with so many viewers over a feed: how it ended, unless something else was said.
+/// Drives a topology with these lanes over a feed: how it ended, unless something else was said.
 fn drive_lines<P: Port + Send, G: Gate + Send, D: Door + Send, M: Pace, R: Threads + Wait + Sync>(
     rt: &R,
     alloc: Global,
     topology: Topology,
-    lines: &[u8],
-    said: &[u8],
-    viewers: u8,
-    lanes: &mut [Lane<P, G, D>],
-    stream: &mut StreamLane<MemStreams, G, D>,
-    pace: &mut M,
+    script: Script,
+    driven: Driven<'_, '_, '_, P, G, D, M>,
 ) -> Option<DriveEnd>
-    requires few { (viewers ≤ 16) × (viewers ≤ length lanes.old) }
+    requires few { (driven.viewers ≤ 16) × (driven.viewers ≤ length driven.lanes.now) }
 {
-    match ends_of(alloc, lines) {
+    match ends_of(alloc, script.lines) {
         None => None,
         Some(ends) => {
             let mut ends = ends;
             let history = EmptyHistory::new();
             let ended = drive_over::<Brand, P, G, D, M, R>(
-                rt, alloc, history, topology, &mut ends, viewers, lanes, stream, pace,
+                rt, alloc, history, topology, &mut ends, driven,
             );
-            if ends.out.bytes() == said {
+            if ends.out.bytes() == script.said {
                 ended
             } else {
                 None
@@ -235,36 +252,35 @@ fn drive_lines<P: Port + Send, G: Gate + Send, D: Door + Send, M: Pace, R: Threa
 fn drive_example<P: Port + Send, G: Gate + Send, D: Door + Send, M: Pace, R: Threads + Wait + Sync>(
     rt: &R,
     alloc: Global,
-    lines: &[u8],
-    said: &[u8],
-    viewers: u8,
-    lanes: &mut [Lane<P, G, D>],
-    stream: &mut StreamLane<MemStreams, G, D>,
-    pace: &mut M,
+    script: Script,
+    driven: Driven<'_, '_, '_, P, G, D, M>,
 ) -> Option<DriveEnd>
-    requires few { (viewers ≤ 16) × (viewers ≤ length lanes.old) }
+    requires few { (driven.viewers ≤ 16) × (driven.viewers ≤ length driven.lanes.now) }
 {
     match read_topology(alloc, EXAMPLE_TREE.as_bytes()) {
         Err(_) => None,
-        Ok(topology) => drive_lines(
-            rt, alloc, topology, lines, said, viewers, lanes, stream, pace,
-        ),
+        Ok(topology) => drive_lines(rt, alloc, topology, script, driven),
     }
 }
 
-/// How a drive ended of which so many lanes, from the first on, ended so, and whose feed was read to its end.
-fn ended_by(ended: Ended, count: usize) -> DriveEnd {
+/// The ends of so many lanes, from the first on, which ended so.
+fn lanes_by(ended: Ended, count: usize) -> [Option<Ended>; 16] {
     let mut lanes = [None; 16];
     for (place, lane) in lanes.iter_mut().enumerate() {
         if place < count {
             *lane = Some(ended);
         }
     }
-    DriveEnd {
-        feed: FeedEnd::Ended,
-        lanes,
-        stream: None,
-    }
+    lanes
+}
+
+/// Whether a drive ended so, whose feed was read to its end: so many of its lanes, from the first on, and the others had no
+/// worker; and its row of notes told of so many maps.
+fn ends_so(end: DriveEnd, ended: Ended, count: usize, maps: u64) -> bool {
+    end.feed == FeedEnd::Ended
+        && end.lanes == lanes_by(ended, count)
+        && end.stream.is_none()
+        && matches!(end.told, Some(told) if told.count() == maps)
 }
 
 /// How one lane ended, and how many datagrams it took and answered.
@@ -277,16 +293,13 @@ fn drive_one<R: Threads + Wait + Sync>(
     let mut lanes = [lane];
     let mut stream = no_stream(alloc)?;
     let mut pace = pace;
-    match drive_example::<MemPort, MemGate, MemDoor, MemPace, R>(
-        rt,
-        alloc,
-        ONE_BATCH,
-        ONE_SAID,
-        1,
-        &mut lanes,
-        &mut stream,
-        &mut pace,
-    ) {
+    let driven = Driven {
+        viewers: 1,
+        lanes: &mut lanes,
+        stream: &mut stream,
+        pace: &mut pace,
+    };
+    match drive_example::<MemPort, MemGate, MemDoor, MemPace, R>(rt, alloc, ONE_BATCH, driven) {
         None => None,
         Some(ended) => {
             let lane = &lanes[0];
@@ -323,8 +336,10 @@ const CLOSINGS: [Closing; 4] = [
 /// Whether each lane ends so.
 fn all_close<R: Threads + Wait + Sync>(rt: &R, alloc: Global, rows: &[Closing]) -> bool {
     for &(queries, refused, ended, taken, tried) in rows {
-        let served = one_lane(rt, alloc, queries, refused);
-        if served != Some((ended_by(ended, 1), taken, tried)) {
+        let Some((end, took, answered)) = one_lane(rt, alloc, queries, refused) else {
+            return false;
+        };
+        if !ends_so(end, ended, 1, 2) || took != taken || answered != tried {
             return false;
         }
     }
@@ -373,16 +388,13 @@ fn drive_some<R: Threads + Wait + Sync>(
     if lanes.len() != 16 {
         return None;
     }
-    match drive_example::<MemPort, MemGate, MemDoor, MemPace, R>(
-        rt,
-        alloc,
-        TWO_BATCHES,
-        TWO_SAID,
-        count,
-        lanes,
-        &mut stream,
-        &mut pace,
-    ) {
+    let driven = Driven {
+        viewers: count,
+        lanes: &mut *lanes,
+        stream: &mut stream,
+        pace: &mut pace,
+    };
+    match drive_example::<MemPort, MemGate, MemDoor, MemPace, R>(rt, alloc, TWO_BATCHES, driven) {
         None => None,
         Some(ended) => Some((ended, taken_by(lanes))),
     }
@@ -408,7 +420,10 @@ fn take_theirs<R: Threads + Wait + Sync>(rt: &R, alloc: Global, count: u8) -> bo
     requires { count ≤ 16 }
 {
     let taken = count as usize;
-    some_lanes(rt, alloc, count) == Some((ended_by(Ended::PortEnd, taken), taken))
+    match some_lanes(rt, alloc, count) {
+        None => false,
+        Some((end, took)) => ends_so(end, Ended::PortEnd, taken, 3) && took == taken,
+    }
 }
 
 /// Those with viewers take their queries, and the others none.

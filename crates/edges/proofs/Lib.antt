@@ -1,4 +1,5 @@
 pub mod LimitsAre
+mod Loaded
 pub mod Ports
 pub mod Puts
 pub mod Leasts

@@ -1,8 +1,14 @@
 -- Real things, as what they were asked and answered.
-use Rattle.std.specs.Prelude.{◌≡◌, ◌≤◌, ◌+◌, ℕ, Bool, None, false, length, if◌then◌else◌}
+use Rattle.std.specs.Prelude.{◌≡◌, ◌≤◌, ◌+◌, ℕ, Bool, None, List, false, length, if◌then◌else◌}
 use Rattle.std.specs.List.{sum_by}
 use Rattle.outside.specs.Port.{PortTold}
+use Rattle.outside.specs.Shelf.{Load}
 use Rattle.outside.specs.Streams.{StreamsTold}
+
+-- files, as the loads so far and the count of those that failed
+pub record ShelfNoted : Type 0 where
+  pub loads : List Load
+  pub faults : ℕ
 
 -- a port, with the count of its calls that failed
 pub record PortNoted : Type 0 where

@@ -2,7 +2,6 @@
 use Rattle.std.specs.Prelude.{ℕ, Bool, false, List, Option, None, option_and_then}
 use Rattle.outside.specs.Sink.{Written}
 use Rattle.outside.specs.Source.{Fed}
-use Rattle.past_log.specs.Names.{new_names}
 use Rattle.past_log.specs.Source.{new_source}
 
 -- a stream that is written, how many puts failed, and what it took
@@ -11,7 +10,7 @@ pub record Writing (W : Type 0) : Type 0 where
   pub faults : ℕ
   pub written : Written
 
--- what a stream that is read keeps of its reads: whether it has ended, how many failed, and what it was asked and answered
+-- what a stream that is read keeps of its calls: whether it has ended, how many failed, and what it was asked and answered
 pub record Hearing : Type 0 where
   pub is_ended : Bool
   pub faults : ℕ
@@ -28,17 +27,16 @@ pub record Reading (T : Type 0) : Type 0 where
   pub faults : ℕ
   pub fed : Fed
 
--- A stream that is opened by its name, and none before; whether it has ended, how many calls failed, what it was asked and answered, and the names under which it was to be opened.
+-- A stream that is opened by its name, and none before; whether it has ended, how many calls failed, and what it was asked and answered, with the names under which it was to be opened.
 pub record Named (T : Type 0) : Type 0 where
   pub stream : Option T
   pub is_ended : Bool
   pub faults : ℕ
   pub fed : Fed
-  pub names : List (List ℕ)
 
 -- one that was asked nothing
 abbrev pub unopened : {T : Type 0} → Named T
-unopened = record { stream = None; is_ended = false; faults = 0; fed = new_source; names = new_names }
+unopened = record { stream = None; is_ended = false; faults = 0; fed = new_source }
 
 -- the octets that are left of a stream, where it is open and tells them
 abbrev pub left_of : {T : Type 0} → (T → Option (List ℕ)) → Option T → Option (List ℕ)

@@ -41,6 +41,14 @@ enum Queue {
     Now,
 }
 
+/// A connection that was had of the listener, with its peer, and the time of that.
+#[derive(Drop)]
+struct Come {
+    stream: TcpStream,
+    peer: Peer,
+    time: u64,
+}
+
 /// A listener, and what waits for it and for its connections.
 #[derive(Drop)]
 pub(crate) struct Ears {
@@ -262,22 +270,21 @@ impl Ears {
         &self,
         seats: &mut [Seat],
         rooms: &mut [Room],
-        come: (TcpStream, Peer),
+        come: Come,
         most_of_one: usize,
-        now: u64,
         turns: &mut u64,
     ) -> Taken
-        ensures taken { IsTakenIn come.1.addr
-            most_of_one now result turns.old turns.new seats.old rooms.old seats.new rooms.new }
+        ensures taken { IsTakenIn come.peer.addr most_of_one come.time result
+            turns.old turns.new seats.old rooms.old seats.new rooms.new }
         ensures turns { (turns.old ≤ turns.new) × (turns.new ≤ raised turns.old 1) }
     {
-        let (stream, peer) = come;
+        let Come { stream, peer, time } = come;
         let Some(i) = place_for(seats, peer.addr, most_of_one) else {
             return Taken::Turned;
         };
         match self.watched_at(stream, i) {
             Some(stream) => {
-                enter_at(seats, rooms, i, Seat::taken(stream, peer, now), turns);
+                enter_at(seats, rooms, i, Seat::taken(stream, peer, time), turns);
                 Taken::At(i)
             }
             None => Taken::Refused,
@@ -324,8 +331,13 @@ impl Ears {
         ensures waits { self.new.waits ≡ self.old.waits }
     {
         match self.accept_next(seats, now) {
-            Ok(come) => {
-                let _ = self.take_in(seats, rooms, come, most_of_one, now, turns);
+            Ok((stream, peer)) => {
+                let come = Come {
+                    stream,
+                    peer,
+                    time: now,
+                };
+                let _ = self.take_in(seats, rooms, come, most_of_one, turns);
                 next_behind(seats)
             }
             Err(knock) => {

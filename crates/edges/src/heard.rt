@@ -1,14 +1,14 @@
-//! What a source over a reader of std keeps of its reads.
-ghost use Rattle.std.specs.Prelude.{◌≡◌, ◌≢◌, ◌↔◌, true, false, length};
+//! What a source over a reader of std keeps of its calls.
+ghost use Rattle.std.specs.Prelude.{◌≡◌, ◌≢◌, ◌↔◌, ◌++◌, ◌∷◌, [], true, false, length};
 ghost use Rattle.outside.specs.Faults.{raised};
 ghost use Rattle.outside.specs.Source.{IsRead};
 ghost use Rattle.edges.specs.Streams.{unheard};
 
 use outside::Read;
-use past_log::{SourceEvent, SourcePast};
+use past_log::{NameEvent, SourceEvent, SourcePast};
 use std::marker::Model;
 
-/// Whether a source has ended, how many of its reads failed, and what it was asked and answered.
+/// Whether a source has ended, how many of its calls failed, and what it was asked and answered.
 #[derive(Drop)]
 pub(crate) struct Heard {
     is_ended: bool,
@@ -51,6 +51,15 @@ impl Heard {
         ensures { self.new ≡ record self.old { faults = raised self.old.faults 1 } }
     {
         self.faults = self.faults.saturating_add(1);
+    }
+
+    /// Keeps an opening under a name.
+    pub fn note_name(&mut self, name: &str)
+        ensures { self.new ≡ record self.old {
+          fed = record self.old.fed { names = self.old.fed.names ++ name.now ∷ [] };
+        } }
+    {
+        self.past.note(&NameEvent { name });
     }
 
     /// Keeps a read that was handed this buffer and left it so. Where the source has ended it is one more end.

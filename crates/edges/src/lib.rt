@@ -2,8 +2,8 @@
 //! lanes.
 //!
 //! They tell their past: what a call was handed and what it answered is noted in it, in some ten lines a device, and so
-//! their clauses tie every answer to what went through the system's calls. The files tell their count of faults alone.
-//! What a source or a sink does with a reader or a writer of std is said of any that tells its bytes.
+//! their clauses tie every answer to what went through the system's calls. Of a file they tell what was read of it in each
+//! load, and not what it holds: it may change between two. What a source or a sink does with a reader or a writer of std is said of any that tells its bytes.
 //!
 //! What has to be trusted is that these lines note the call that they make; that files and sockets are opened as asked;
 //! and that the system's readers, writers and sockets are true: that a datagram which is said to be sent goes out, and

@@ -9,7 +9,6 @@ ghost use Rattle.edges.specs.Streams.{left_of, unopened};
 use crate::heard::Heard;
 use crate::pieces::read_piece;
 use outside::{NamedSource, Opening, Read, Source};
-use past_log::{NameEvent, NamesPast};
 use std::fs::{self, OpenOptions};
 use std::io;
 use std::marker::Model;
@@ -22,7 +21,6 @@ pub struct NamedStream<'a, R: Files> {
     rt: &'a R,
     stream: Option<R::File>,
     heard: Heard,
-    names: NamesPast,
 }
 
 impl<'a, R: Files> Model for NamedStream<'a, R> {
@@ -36,7 +34,6 @@ impl<'a, R: Files> Model for NamedStream<'a, R> {
       is_ended = s.heard.is_ended;
       faults = s.heard.faults;
       fed = s.heard.fed;
-      names = s.names.told;
     } };
 
     ghost invariant = { λ s. s.stream ≡ None → s.heard.is_ended ≡ false };
@@ -51,7 +48,6 @@ impl<'a, R: Files> NamedStream<'a, R> {
             rt,
             stream: None,
             heard: Heard::new(),
-            names: NamesPast::new(),
         }
     }
 }
@@ -99,7 +95,6 @@ impl<R: Files> Source for NamedStream<'_, R> {
         ensures unasked { self.old.is_ended ≡ true
             → (result ≡ Read.End) × (self.new.stream ≡ self.old.stream) }
         ensures open { is_some self.new.stream ≡ is_some self.old.stream }
-        ensures names { self.new.names ≡ self.old.names }
     {
         let read = match &mut self.stream {
             None => Read::Failed,
@@ -112,13 +107,9 @@ impl<R: Files> Source for NamedStream<'_, R> {
 }
 
 impl<R: Files> NamedSource for NamedStream<'_, R> {
-    ghost opens = { λ s. Some s.names };
-
     fn open(&mut self, name: &str) -> Opening
         ensures open { BothTell
-            (Some self.old.names) (Some self.new.names) (IsNamed name.now result) }
-        ensures told { BothTell (Some self.old.fed) (Some self.new.fed) (λ before after.
-            after ≡ before) }
+            (Some self.old.fed) (Some self.new.fed) (IsNamed name.now result) }
         ensures later { self.old.faults ≤ self.new.faults }
         ensures cause { result ≡ Opening.Failed → Rose self.old.faults self.new.faults }
         ensures stays { result ≢ Opening.Failed → self.new.faults ≡ self.old.faults }
@@ -127,10 +118,10 @@ impl<R: Files> NamedSource for NamedStream<'_, R> {
         ensures ready { result ≡ Opening.Ready
             → (self.old.stream ≡ None) × (is_some self.new.stream ≡ true) }
         ensures failed { result ≡ Opening.Failed → self.new.stream ≡ self.old.stream }
-        ensures noted { self.new.names ≡ self.old.names ++ name.now ∷ [] }
+        ensures noted { self.new.fed.names ≡ self.old.fed.names ++ name.now ∷ [] }
         ensures ended { self.new.is_ended ≡ self.old.is_ended }
     {
-        self.names.note(&NameEvent { name });
+        self.heard.note_name(name);
         if self.stream.is_none() {
             if let Ok(file) = open_file(self.rt, name) {
                 self.stream = Some(file);

@@ -1,5 +1,5 @@
 //! What is read of std's readers, and put into its writers.
-ghost use Rattle.std.specs.Prelude.{◌≡◌, ◌≤◌, ◌<◌, ◌↔◌, ◌≢◌, ℕ, Some, [], take, length, IfOk, IfSome, IsErrOf, OnOk, vec_len};
+ghost use Rattle.std.specs.Prelude.{◌≡◌, ◌≤◌, ◌<◌, ◌↔◌, ◌≢◌, ℕ, Some, [], take, length, IfOk, IfSome, IsErrOf, MatchResult, OnOk, vec_len};
 ghost use Rattle.outside.specs.Source.{IsWithin};
 ghost use Rattle.std.specs.Io.KnownBytes.{Appends, Consumes, IsAtEnd, Keeps};
 ghost use Rattle.std.specs.IoError.{error_kind};
@@ -39,6 +39,34 @@ fn read_most<T: io::Read + Drop>(
     }
 }
 
+/// All octets of a reader, if there are at most `limit`, or else its first ones, one more than that.
+pub(crate) fn read_past<T: io::Read + Drop>(
+    reader: T,
+    alloc: Global,
+    limit: usize,
+    expected: u64,
+) -> Result<Vec<u8>, LoadFault>
+    ensures whole { IfOk result (λ bytes. vec_len bytes ≤ limit
+        → IfSome (T.remaining reader) (λ octets. bytes.items ≡ octets)) }
+    ensures more { IfOk result (λ bytes. limit < vec_len bytes
+        → IfSome (T.remaining reader) (λ octets. limit < length octets)) }
+    ensures long { IsErrOf result LoadFault.TooLong → ⊥ }
+{
+    read_most(reader, alloc, (limit as u64).saturating_add(1), expected)
+}
+
+/// These octets, if there are at most `limit`.
+pub(crate) fn within(bytes: Vec<u8>, limit: usize) -> Result<Vec<u8>, LoadFault>
+    ensures { MatchResult result
+        (λ given. (given ≡ bytes) × (vec_len bytes ≤ limit))
+        (λ fault. (fault ≡ LoadFault.TooLong) × (limit < vec_len bytes)) }
+{
+    if bytes.len() > limit {
+        return Err(LoadFault::TooLong);
+    }
+    Ok(bytes)
+}
+
 /// All octets of a reader, if there are at most `limit`. No more than one past it are read. Room is taken once for as
 /// many as are expected, and more where more come.
 ///
@@ -57,11 +85,8 @@ pub fn read_within<T: io::Read + Drop>(
     ensures long { IsErrOf result LoadFault.TooLong
         → IfSome (T.remaining reader) (λ octets. limit < length octets) }
 {
-    let bytes = read_most(reader, alloc, (limit as u64).saturating_add(1), expected)?;
-    if bytes.len() > limit {
-        return Err(LoadFault::TooLong);
-    }
-    Ok(bytes)
+    let bytes = read_past(reader, alloc, limit, expected)?;
+    within(bytes, limit)
 }
 
 /// The next octets of a reader, at the front of the buffer.

@@ -241,7 +241,8 @@ struct Reader<'t, N: Numbers> {
 impl<N: Numbers> Feeds for Reader<'_, N> {
     ghost use Rattle.std.specs.Prelude.{◌≡◌, [], length};
 
-    ghost ready = { λ r. (length r.topology.now.market.groups ≡ N.groups) × (length r.topology.now.market.nodes ≡ N.nodes) × (r.feeder.sent ≡ []) };
+    ghost ready = { λ r. (length r.topology.now.market.groups ≡ N.groups)
+        × (length r.topology.now.market.nodes ≡ N.nodes) × (r.feeder.sent ≡ []) };
 
     fn run<R: Wait>(&mut self, rt: &R) {
         self.feeder

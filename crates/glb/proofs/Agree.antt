@@ -3,7 +3,7 @@ use Rattle.std.proofs.Common.{◌≡◌, ◌⊎◌, inl, inr, ℕ, ◌-◌, ◌<
 use Rattle.std.specs.Prelude.{Option, slice_get, take}
 use Rattle.std.specs.List.{concat}
 use Rattle.std.proofs.lemmas.List.{append_cancel_left}
-use Rattle.outside.specs.Faults.{BothTell}
+use Rattle.outside.specs.Faults.{BothTell, DeviceState}
 use Rattle.outside.specs.Sink.{Written}
 use Rattle.outside.specs.declared.pace.PaceCall.{PaceCall}
 use Rattle.demand_feed.specs.Task.{Task, tasks}
@@ -17,7 +17,7 @@ use Rattle.mapper.specs.Words.{map_text}
 use Rattle.mapper.specs.Merged.{Publishes}
 use Rattle.mapper.proofs.Agree.{all_come_one, first_one, versions_one}
 use Rattle.lane_model.specs.Machine.{GoesOn}
-use Rattle.drive.specs.Driven.{Lent, Succeeds}
+use Rattle.drive.specs.Driven.{LentTold, Succeeds, scene_at}
 use Rattle.drive.proofs.Growing.{last_appended}
 use Rattle.drive.specs.Feeds.{AreFed}
 use Rattle.demand_feed.specs.Runs.{HasRead, IsAll, StopsLast}
@@ -33,8 +33,8 @@ use Rattle.map_model.specs.declared.lines.MapLine.{MapLine}
 use Rattle.map_model.specs.declared.lines.NameLine.{NameLine}
 use Rattle.map_model.specs.Allocation.{IsGood}
 use Rattle.map_model.specs.Market.{Market}
-use Rattle.agree_laws.proofs.Applied.{applied_one}
-use Rattle.agree_laws.proofs.Ends.{group_best_one}
+use Rattle.map_laws.proofs.Applied.{applied_one}
+use Rattle.map_laws.proofs.Ends.{group_best_one}
 use Rattle.map_repair.specs.Resumed.{HasRepaired}
 use Rattle.map_repair.proofs.Agree.{repaired_one}
 use Rattle.topology_text.specs.Plan.{Plan}
@@ -62,27 +62,27 @@ repair_one t m changes a b x y = x.text ∙ ap (λ (z : Mapped). text_of_map t z
         (subst (λ (z : Market). HasRepaired t.market m.lines z x.repaired.lines 0 x.steps) market x.counted) y.counted (subst (λ (z : Market). IsGood z x.repaired.lines x.repaired.names) market x.good_again) y.good_again)
 
 came_by : (turns : ℕ) (ask : Service) (before after : Surroundings) (w : IsWellServed turns ask before after) (is : List Task) (calls : Option (List PaceCall))
-    → AllCame is (scene w.first (w.first ∷ []) w.started.lent.out w.started.lent.maps w.started.lent.pace) (scene w.newest (w.first ∷ w.rest) after.stage.lent.out after.stage.lent.maps calls) → (c : Course) × CameBy turns ask before after w is c
+    → AllCame is (scene_at w.first (w.first ∷ []) w.started) (scene w.newest (w.first ∷ w.rest) after.lent.out.past after.lent.maps.past calls) → (c : Course) × CameBy turns ask before after w is c
 came_by turns ask before after w is calls (c, all, at) = (
   c,
   record {
     all = all;
     history = at.history;
-    out = subst (λ (o : Option Written). BothTell o after.stage.lent.out (IsPrinted c.out)) (ap (λ (l : Lent). l.out) w.start.lent ∙ ap (λ (l : Lent). l.out) w.place.lent) at.out;
-    maps = subst (λ (h : List Version). BothTell before.stage.lent.maps after.stage.lent.maps (IsPrinted (map map_text h))) at.history w.texts;
+    out = subst (λ (o : DeviceState Written). BothTell o.past after.lent.out.past (IsPrinted c.out)) (ap (λ (l : LentTold). l.out) w.start.rest ∙ ap (λ (l : LentTold). l.out) w.place.rest) at.out;
+    maps = subst (λ (h : List Version). BothTell before.lent.maps.past after.lent.maps.past (IsPrinted (map map_text h))) at.history w.texts;
   },
 )
 
 -- with one feed, what was worked is that feed's run
 one_feed : (turns : ℕ) (ask : Service) (before after : Surroundings) (w : IsWellServed turns ask before after) → ask.more ≡ []
-    → IsFeed w.topology turns Ended w.started.lent.feed.fed after.stage.lent.feed.fed (scene w.first (w.first ∷ []) w.started.lent.out w.started.lent.maps w.started.lent.pace) (scene w.newest (w.first ∷ w.rest) after.stage.lent.out after.stage.lent.maps after.stage.lent.pace)
+    → IsFeed w.topology turns Ended w.started.feed.past after.lent.feed.past (scene_at w.first (w.first ∷ []) w.started) (scene_at w.newest (w.first ∷ w.rest) after.lent)
 one_feed turns ask before after w none =
-    (subst (λ (names : List (List ℕ)). AreFed w.topology turns Ended w.started.lent.feed (take (length names) w.started.lent.more) after.stage.lent.feed (take (length names) after.stage.lent.more) (scene w.first (w.first ∷ []) w.started.lent.out w.started.lent.maps w.started.lent.pace)
-    (scene w.newest (w.first ∷ w.rest) after.stage.lent.out after.stage.lent.maps after.stage.lent.pace)) none w.fed).0
+    (subst (λ (names : List (List ℕ)). AreFed w.topology turns Ended w.started.feed (take (length names) w.started.more) after.lent.feed (take (length names) after.lent.more) (scene_at w.first (w.first ∷ []) w.started)
+    (scene_at w.newest (w.first ∷ w.rest) after.lent)) none w.fed).0
 
 -- what the feed tells is as it was before the cell was opened
-feed_same : (turns : ℕ) (ask : Service) (before after : Surroundings) (w : IsWellServed turns ask before after) → w.started.lent.feed.fed ≡ before.stage.lent.feed.fed
-feed_same turns ask before after w = ap (λ (l : Lent). l.feed.fed) w.start.lent ∙ ap (λ (l : Lent). l.feed.fed) w.place.lent
+feed_same : (turns : ℕ) (ask : Service) (before after : Surroundings) (w : IsWellServed turns ask before after) → w.started.feed.past ≡ before.lent.feed.past
+feed_same turns ask before after w = ap (λ (l : LentTold). l.feed.past) w.start.rest ∙ ap (λ (l : LentTold). l.feed.past) w.place.rest
 
 -- what is said of the tasks of all pieces that were read, to a `stop` or to the end, is said of those of their octets
 ended_of_pieces : (t : Plan) (turns : ℕ) (pieces : List (List ℕ)) (before after : Option Fed) (P : List Task → Type 0)
@@ -112,9 +112,9 @@ of_octets t turns pieces (Some before) (Some after) octets P (inr (given, is, sa
 pub serves_come : ServesCome
 serves_come turns ask before after w octets none are =
     let fed = one_feed turns ask before after w none in
-    let all = of_octets w.topology turns fed.run.0 w.started.lent.feed.fed after.stage.lent.feed.fed octets
-    (λ (ts : List Task). AllCame ts (scene w.first (w.first ∷ []) w.started.lent.out w.started.lent.maps w.started.lent.pace) (scene w.newest (w.first ∷ w.rest) after.stage.lent.out after.stage.lent.maps fed.calls))
-    (subst (λ (f : Option Fed). AreOctetsOf f after.stage.lent.feed.fed octets) (sym (feed_same turns ask before after w)) are) fed.run.1 fed.run.2 in
+    let all = of_octets w.topology turns fed.run.0 w.started.feed.past after.lent.feed.past octets
+    (λ (ts : List Task). AllCame ts (scene_at w.first (w.first ∷ []) w.started) (scene w.newest (w.first ∷ w.rest) after.lent.out.past after.lent.maps.past fed.calls))
+    (subst (λ (f : Option Fed). AreOctetsOf f after.lent.feed.past octets) (sym (feed_same turns ask before after w)) are) fed.run.1 fed.run.2 in
     came_by turns ask before after w (tasks w.topology (lines_of true octets)) fed.calls all
 
 -- two runs over one topology have the same first version

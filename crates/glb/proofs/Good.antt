@@ -2,7 +2,7 @@
 use Rattle.std.proofs.Common.{◌≡◌, ℕ, List, [], ◌∷◌, Option, None, Some, inl, inr, ap, sym, ◌∙◌, subst}
 use Rattle.map_model.specs.Allocation.{IsGood}
 use Rattle.outside.specs.Faults.{BothTell}
-use Rattle.outside.specs.Shelf.{Shelved}
+use Rattle.glb.specs.Loads.{Files, files_between}
 use Rattle.outside.specs.Sink.{Written}
 use Rattle.stable_check.specs.Judgement.{Judges}
 use Rattle.stable_check.specs.declared.verdict.Verdict.{Verdict}
@@ -27,7 +27,7 @@ use Rattle.glb.specs.Texts as text
 use Rattle.glb.proofs.Plans.{is_plan}
 
 -- where all is well, the file said something
-well_read : {T : Type 0} (kind : Kind T) (files : Option Shelved) (name : List ℕ) (Next : T → Outcome → Type 0) (due : Outcome) → Reads kind files name Next due → due.status ≡ status.Ok → (t : T) × Says kind files name t × Next t due
+well_read : {T : Type 0} (kind : Kind T) (files : Option Files) (name : List ℕ) (Next : T → Outcome → Type 0) (due : Outcome) → Reads kind files name Next due → due.status ≡ status.Ok → (t : T) × Says kind files name t × Next t due
 well_read kind files name Next due (inl refused) ok = let same : due.status ≡ status.Refused = ap (λ (o : Outcome). o.status) refused.4 in absurd (cc)
 well_read kind files name Next due (inr read) ok = read
 
@@ -49,45 +49,45 @@ replied t m d due (inl reply) ok = reply.reply
 replied t m d due (inr other) ok = let same : due.status ≡ status.NotGood = ap (λ (o : Outcome). o.status) other.outcome in absurd (cc)
 
 -- what status 0 of each command says, of an outcome that is due and was put
-well_checked : (topology map : List ℕ) (before after : Outside) (due : Outcome) → IsCheckDue topology map before.files due → due.status ≡ status.Ok → BothTell before.out after.out (IsPrinted due.pieces) → IsCheckedRun topology map before after
+well_checked : (topology map : List ℕ) (before after : Outside) (due : Outcome) → IsCheckDue topology map (files_between before.files.past after.files.past) due → due.status ≡ status.Ok → BothTell before.out.past after.out.past (IsPrinted due.pieces) → IsCheckedRun topology map before after
 well_checked topology map before after due h ok puts =
-    let first = well_read topology_file before.files topology (λ t. Reads (map_file t) before.files map (IsJudged t)) due h ok in
+    let first = well_read topology_file (files_between before.files.past after.files.past) topology (λ t. Reads (map_file t) (files_between before.files.past after.files.past) map (IsJudged t)) due h ok in
     let t = first.0 in
-    let second = well_read (map_file t) before.files map (IsJudged t) due first.2 ok in
+    let second = well_read (map_file t) (files_between before.files.past after.files.past) map (IsJudged t) due first.2 ok in
     let good = well_judged t second.0 due second.2 ok in
-    (t, second.0, is_plan before.files topology t first.1, first.1, second.1, good.0, subst (λ (ps : List (List ℕ)). BothTell before.out after.out (IsPrinted ps)) good.1 puts)
+    (t, second.0, is_plan (files_between before.files.past after.files.past) topology t first.1, first.1, second.1, good.0, subst (λ (ps : List (List ℕ)). BothTell before.out.past after.out.past (IsPrinted ps)) good.1 puts)
 
-well_mapped : (topology : List ℕ) (before after : Outside) (due : Outcome) → IsMapDue topology before.files due → due.status ≡ status.Ok → BothTell before.out after.out (IsPrinted due.pieces) → IsMappedRun topology before after
+well_mapped : (topology : List ℕ) (before after : Outside) (due : Outcome) → IsMapDue topology (files_between before.files.past after.files.past) due → due.status ≡ status.Ok → BothTell before.out.past after.out.past (IsPrinted due.pieces) → IsMappedRun topology before after
 well_mapped topology before after due h ok puts =
-    let read = well_read topology_file before.files topology IsMapped due h ok in
-    (read.0, due.pieces, is_plan before.files topology read.0 read.1, read.1, read.2.text, puts)
+    let read = well_read topology_file (files_between before.files.past after.files.past) topology IsMapped due h ok in
+    (read.0, due.pieces, is_plan (files_between before.files.past after.files.past) topology read.0 read.1, read.1, read.2.text, puts)
 
-well_spread : (topology : List ℕ) (before after : Outside) (due : Outcome) → IsPlacesDue topology before.files due → due.status ≡ status.Ok → BothTell before.out after.out (IsPrinted due.pieces) → IsPlacesRun topology before after
+well_spread : (topology : List ℕ) (before after : Outside) (due : Outcome) → IsPlacesDue topology (files_between before.files.past after.files.past) due → due.status ≡ status.Ok → BothTell before.out.past after.out.past (IsPrinted due.pieces) → IsPlacesRun topology before after
 well_spread topology before after due h ok puts =
-    let read = well_read topology_file before.files topology IsSpreadOut due h ok in
-    (read.0, due.pieces, is_plan before.files topology read.0 read.1, read.1, read.2.text, puts)
+    let read = well_read topology_file (files_between before.files.past after.files.past) topology IsSpreadOut due h ok in
+    (read.0, due.pieces, is_plan (files_between before.files.past after.files.past) topology read.0 read.1, read.1, read.2.text, puts)
 
-well_answered : (topology map : List ℕ) (d : Datagram) (before after : Outside) (due : Outcome) → IsAnswerDue topology map d before.files due → due.status ≡ status.Ok → BothTell before.out after.out (IsPrinted due.pieces)
+well_answered : (topology map : List ℕ) (d : Datagram) (before after : Outside) (due : Outcome) → IsAnswerDue topology map d (files_between before.files.past after.files.past) due → due.status ≡ status.Ok → BothTell before.out.past after.out.past (IsPrinted due.pieces)
     → IsAnsweredRun topology map d before after
 well_answered topology map d before after due h ok puts =
-    let first = well_read topology_file before.files topology (λ t. Reads (map_file t) before.files map (IsAnswered d t)) due h ok in
+    let first = well_read topology_file (files_between before.files.past after.files.past) topology (λ t. Reads (map_file t) (files_between before.files.past after.files.past) map (IsAnswered d t)) due h ok in
     let t = first.0 in
-    let second = well_read (map_file t) before.files map (IsAnswered d t) due first.2 ok in
-    (t, second.0, due.pieces, is_plan before.files topology t first.1, first.1, second.1, replied t second.0 d due second.2 ok, puts)
+    let second = well_read (map_file t) (files_between before.files.past after.files.past) map (IsAnswered d t) due first.2 ok in
+    (t, second.0, due.pieces, is_plan (files_between before.files.past after.files.past) topology t first.1, first.1, second.1, replied t second.0 d due second.2 ok, puts)
 
 is_repaired : (t : Plan) (m : Mapped) (c : List Change) (due : Outcome) → IsRepairOf t m c due → due.status ≡ status.Ok → AreRepaired t m c due.pieces
 is_repaired t m c due (inl repaired) ok = repaired.repaired
 is_repaired t m c due (inr other) ok = let same : due.status ≡ status.NotGood = ap (λ (o : Outcome). o.status) other.outcome in absurd (cc)
 
-well_repaired : (topology map changes : List ℕ) (before after : Outside) (due : Outcome) → IsRepairDue topology map changes before.files due → due.status ≡ status.Ok → BothTell before.out after.out (IsPrinted due.pieces)
+well_repaired : (topology map changes : List ℕ) (before after : Outside) (due : Outcome) → IsRepairDue topology map changes (files_between before.files.past after.files.past) due → due.status ≡ status.Ok → BothTell before.out.past after.out.past (IsPrinted due.pieces)
     → IsRepairedRun topology map changes before after
 well_repaired topology map changes before after due h ok puts =
-    let first = well_read topology_file before.files topology (λ t. Reads (map_file t) before.files map (λ m. Reads (changes_file t) before.files changes (IsRepairOf t m))) due h ok in
+    let first = well_read topology_file (files_between before.files.past after.files.past) topology (λ t. Reads (map_file t) (files_between before.files.past after.files.past) map (λ m. Reads (changes_file t) (files_between before.files.past after.files.past) changes (IsRepairOf t m))) due h ok in
     let t = first.0 in
-    let second = well_read (map_file t) before.files map (λ m. Reads (changes_file t) before.files changes (IsRepairOf t m)) due first.2 ok in
+    let second = well_read (map_file t) (files_between before.files.past after.files.past) map (λ m. Reads (changes_file t) (files_between before.files.past after.files.past) changes (IsRepairOf t m)) due first.2 ok in
     let m = second.0 in
-    let third = well_read (changes_file t) before.files changes (IsRepairOf t m) due second.2 ok in
-    (t, m, third.0, due.pieces, is_plan before.files topology t first.1, first.1, second.1, third.1, is_repaired t m third.0 due third.2 ok, puts)
+    let third = well_read (changes_file t) (files_between before.files.past after.files.past) changes (IsRepairOf t m) due second.2 ok in
+    (t, m, third.0, due.pieces, is_plan (files_between before.files.past after.files.past) topology t first.1, first.1, second.1, third.1, is_repaired t m third.0 due third.2 ok, puts)
 
 -- a run with status 0 comes out well
 whole_run : (Due : Outcome → Type 0) (P : Type 0) (before after : Option Written) (result : Status) → RunsBy Due before after result → result ≡ status.Ok
@@ -101,12 +101,12 @@ good_run None before after result (inl (inl whole)) ok = let usage : whole.due.s
 good_run None before after result (inl (inr cut)) ok = let other = cut.status in absurd (cc)
 good_run None before after result (inr unread) ok = let other = unread.status in absurd (cc)
 good_run (Some (check topology map)) before after result run ok =
-    whole_run (IsCheckDue topology map before.files) (IsCheckedRun topology map before after) before.out after.out result run ok (well_checked topology map before after)
+    whole_run (IsCheckDue topology map (files_between before.files.past after.files.past)) (IsCheckedRun topology map before after) before.out.past after.out.past result run ok (well_checked topology map before after)
 good_run (Some (map_from topology)) before after result run ok =
-    whole_run (IsMapDue topology before.files) (IsMappedRun topology before after) before.out after.out result run ok (well_mapped topology before after)
+    whole_run (IsMapDue topology (files_between before.files.past after.files.past)) (IsMappedRun topology before after) before.out.past after.out.past result run ok (well_mapped topology before after)
 good_run (Some (places topology)) before after result run ok =
-    whole_run (IsPlacesDue topology before.files) (IsPlacesRun topology before after) before.out after.out result run ok (well_spread topology before after)
+    whole_run (IsPlacesDue topology (files_between before.files.past after.files.past)) (IsPlacesRun topology before after) before.out.past after.out.past result run ok (well_spread topology before after)
 good_run (Some (answer topology map d)) before after result run ok =
-    whole_run (IsAnswerDue topology map d before.files) (IsAnsweredRun topology map d before after) before.out after.out result run ok (well_answered topology map d before after)
+    whole_run (IsAnswerDue topology map d (files_between before.files.past after.files.past)) (IsAnsweredRun topology map d before after) before.out.past after.out.past result run ok (well_answered topology map d before after)
 good_run (Some (repair topology map changes)) before after result run ok =
-    whole_run (IsRepairDue topology map changes before.files) (IsRepairedRun topology map changes before after) before.out after.out result run ok (well_repaired topology map changes before after)
+    whole_run (IsRepairDue topology map changes (files_between before.files.past after.files.past)) (IsRepairedRun topology map changes before after) before.out.past after.out.past result run ok (well_repaired topology map changes before after)

@@ -4,7 +4,7 @@ use Rattle.std.specs.Prelude.{Option}
 use Rattle.std.specs.List.{concat}
 use Rattle.std.proofs.lemmas.List.{map-append}
 use Rattle.std.proofs.lemmas.List.Folds.{concat-append}
-use Rattle.outside.specs.Faults.{BothTell, raised}
+use Rattle.outside.specs.Faults.{BothTell, DeviceState, raised}
 use Rattle.outside.specs.Sink.{Written}
 use Rattle.outside.specs.Source.{Fed}
 use Rattle.topology_text.specs.Plan.{Plan}
@@ -16,7 +16,7 @@ use Rattle.mapper.specs.Control.{AllCome, Comes, Course, start}
 use Rattle.mapper.specs.Feeding.{AllCame, IsFeedRun}
 use Rattle.mapper.specs.Scenes.{IsAt, IsPrinted, Scene}
 use Rattle.mapper.specs.Words.{map_text}
-use Rattle.drive.specs.Feeds.{AreFed, FeedTold}
+use Rattle.drive.specs.Feeds.{AreFed}
 use Rattle.glb.proofs.Several.{all_work_texts, together_worked}
 
 one_texts : (task : Task) (c d : Course) → c.maps ≡ map map_text c.versions → Comes task c d → d.maps ≡ map map_text d.versions
@@ -59,10 +59,10 @@ course_texts first rest maps before after c old new put worked at =
     (tell_trans maps before.maps after.maps (IsPrinted (map_text first ∷ [])) (IsPrinted c.maps) (IsPrinted (map_text first ∷ c.maps)) put at.maps (more_printed (map_text first ∷ []) c.maps))
 
 -- the first text, and those of feeds that ended
-pub texts_of : (t : Plan) (turns : ℕ) (fed then : FeedTold) (more past : List FeedTold) (first : Version) (rest : List Version) (maps : Option Written) (before after : Scene) → before.history ≡ first ∷ [] → after.history ≡ first ∷ rest
+pub texts_of : (t : Plan) (turns : ℕ) (fed then : DeviceState Fed) (more past : List (DeviceState Fed)) (first : Version) (rest : List Version) (maps : Option Written) (before after : Scene) → before.history ≡ first ∷ [] → after.history ≡ first ∷ rest
     → BothTell maps before.maps (IsPrinted (map_text first ∷ [])) → AreFed t turns feed.Ended fed more then past before after → BothTell maps after.maps (IsPrinted (map map_text (first ∷ rest)))
 texts_of t turns fed then [] past first rest maps before after old new put run =
-    let came = course_of t turns fed.fed then.fed before (record after { pace = run.0.calls }) run.0.run in
+    let came = course_of t turns fed.past then.past before (record after { pace = run.0.calls }) run.0.run in
     let c = came.1.0 in
     course_texts first rest maps before (record after { pace = run.0.calls }) c old new put (all_texts came.0 (start before.newest) c refl came.1.1) came.1.2
 texts_of t turns fed then (m ∷ more) past first rest maps before after old new put run =

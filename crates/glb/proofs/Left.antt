@@ -1,8 +1,10 @@
 -- Where all is well, what `serve` may answer.
 use Rattle.std.proofs.Common.{◌≡◌, ◌⊎◌, inl, inr, ℕ, Bool, true, false, List, ap, ◌∙◌}
-use Rattle.std.specs.Prelude.{IsSome, Option, None, Some}
+use Rattle.std.specs.Prelude.{IsSomeAnd, Option, None, Some}
 use Rattle.std.specs.List.{list_any}
+use Rattle.outside.specs.Faults.{BothTell}
 use Rattle.outside.specs.Shelf.{Shelved}
+use Rattle.glb.specs.Loads.{Files, files_between}
 use Rattle.outside.specs.Sink.{Written}
 use Rattle.demand_feed.specs.declared.run.FeedEnd.{FeedEnd}
 use Rattle.demand_feed.specs.declared.run.FeedEnd.TheVariants as feed
@@ -16,20 +18,19 @@ use Rattle.glb.specs.Causes.{AnyServer, HasDoorFault, IsPastMaps}
 use Rattle.glb.specs.Told.{Surroundings}
 use Rattle.glb.specs.Serve.{IsServeRun, all_ends, is_cell_fault, is_port_fault, is_spent, status_by, status_of}
 use Rattle.glb.specs.Program.{HasServeCauses, IsLeft, IsServeQuiet}
-use Rattle.glb.proofs.Complete.{one_answer, one_content}
+use Rattle.glb.proofs.Complete.{Tells, held_given, one_answer, one_content, sound_told}
 
 -- a file that holds a topology is not refused
-not_refused : (shelf : Shelved) (name : List ℕ) (due : Outcome) → HoldsTopology name (Some shelf) → IsRefused topology_file (Some shelf) name due → ⊥
-not_refused shelf name due held h =
-    let same : held.1.0 ≡ h.0 = one_content (shelf.holds name) held.1.0 h.0 held.1.1 h.2 in
-    one_answer (said topology_file held.1.0) held.0 h.1 held.1.2 (ap (said topology_file) same ∙ h.3)
+not_refused : (files : Option Files) (held : List ℕ → Option (List ℕ)) (name : List ℕ) (due : Outcome) → Tells files held → HoldsTopology name held → IsRefused topology_file files name due → ⊥
+not_refused files held name due told holds h =
+    let same : holds.1.0 ≡ h.0 = one_content (held name) holds.1.0 h.0 holds.1.1 (held_given files held name topology_file.limit h.0 told h.2) in
+    one_answer (said topology_file holds.1.0) holds.0 h.1 holds.1.2 (ap (said topology_file) same ∙ h.3)
 
-unread_left : (name : List ℕ) (files : Option Shelved) (out out' : Option Written) (result : Status) → IsSome files → HoldsTopology name files → (result ≡ status.SourceFault → ⊥) → (result ≡ status.SinkFault → ⊥)
+unread_left : (name : List ℕ) (files : Option Files) (held : List ℕ → Option (List ℕ)) (out out' : Option Written) (result : Status) → Tells files held → HoldsTopology name held → (result ≡ status.SourceFault → ⊥) → (result ≡ status.SinkFault → ⊥)
     → RunsBy (IsRefused topology_file files name) out out' result → (result ≡ status.Ok) ⊎ (result ≡ status.NoMemory) ⊎ (result ≡ status.Spent) ⊎ (result ≡ status.CellFault)
-unread_left name None out out' result told held source sink run = absurd (cc)
-unread_left name (Some shelf) out out' result told held source sink (inl whole) = absurd (not_refused shelf name whole.due held whole.is_due)
-unread_left name (Some shelf) out out' result told held source sink (inr (inl cut)) = absurd (sink cut.status)
-unread_left name (Some shelf) out out' result told held source sink (inr (inr silent)) = elim silent.status [ inl h ↦ absurd (source h) | inr h ↦ inr (inl h) ]
+unread_left name files held out out' result told holds source sink (inl whole) = absurd (not_refused files held name whole.due told holds whole.is_due)
+unread_left name files held out out' result told holds source sink (inr (inl cut)) = absurd (sink cut.status)
+unread_left name files held out out' result told holds source sink (inr (inr silent)) = elim silent.status [ inl h ↦ absurd (source h) | inr h ↦ inr (inl h) ]
 
 by_left : (result : Status) (p s m c : Bool) → result ≡ status_by p s m c → (result ≡ status.PortFault → ⊥) → (result ≡ status.Ok) ⊎ (result ≡ status.NoMemory) ⊎ (result ≡ status.Spent) ⊎ (result ≡ status.CellFault)
 by_left result true s m c is port = absurd (port is)
@@ -47,9 +48,9 @@ served_left feed.Ended p s c result is source sink port = by_left result p s fal
 served_left feed.Spent p s c result is source sink port = by_left result p true false c is port
 
 -- what is left of the answers, by their causes
-pub left_of : (turns : ℕ) (ask : Service) (before after : Surroundings) (result : Status) → IsServeRun turns ask before after result → HasServeCauses turns ask before after result → IsSome before.files → HoldsTopology ask.topology before.files
-    → IsServeQuiet ask before after → IsLeft turns (Some (serve ask)) before after result
-left_of turns ask before after result run causes told held quiet = elim (go run) [
+pub left_of : (turns : ℕ) (ask : Service) (before after : Surroundings) (result : Status) (R : Shelved → Shelved → Type 0) → IsServeRun turns ask before after result → HasServeCauses turns ask before after result → BothTell before.files.past after.files.past R
+    → IsSomeAnd before.files.past (λ f. IsSomeAnd f.holds (HoldsTopology ask.topology)) → IsServeQuiet ask before after → IsLeft turns (Some (serve ask)) before after result
+left_of turns ask before after result R run causes told sound quiet = elim (go run) [
   | inl h ↦ inl h
   | inr (inl h) ↦ inr (inl h)
   | inr (inr (inl h)) ↦ inr (inr (inl (h, causes.lanes.spent h)))
@@ -65,12 +66,14 @@ left_of turns ask before after result run causes told held quiet = elim (go run)
     port : result ≡ status.PortFault → ⊥
     port h = quiet.ports (causes.lanes.port h)
 
-    past : AnyServer ask HasDoorFault HasDoorFault before.stage.lent after.stage.lent ⊎ IsPastMaps ask before.stage.lent after.stage.lent → IsPastMaps ask before.stage.lent after.stage.lent
+    past : AnyServer ask HasDoorFault HasDoorFault before.lent after.lent ⊎ IsPastMaps ask before.lent after.lent → IsPastMaps ask before.lent after.lent
     past (inl h) = absurd (quiet.doors h)
     past (inr h) = h
 
     go : IsServeRun turns ask before after result → (result ≡ status.Ok) ⊎ (result ≡ status.NoMemory) ⊎ (result ≡ status.Spent) ⊎ (result ≡ status.CellFault)
-    go (inl unread) = unread_left ask.topology before.files before.stage.lent.out after.stage.lent.out result told held source sink unread.run
+    go (inl unread) =
+        let s = sound_told (HoldsTopology ask.topology) R before.files.past after.files.past told sound in
+        unread_left ask.topology (files_between before.files.past after.files.past) s.0 before.lent.out.past after.lent.out.past result s.1 s.2 source sink unread.run
     go (inr (topology, plan, says, inl unopened)) = elim unopened.why [ inl h ↦ inr (inl h) | inr h ↦ inr (inr (inr h.0)) ]
     go (inr (topology, plan, says, inr (placed, first, place, is_first, inl shut))) = absurd (port shut.why)
     go (inr (topology, plan, says, inr (placed, first, place, is_first, inr (inl shut)))) = absurd (source shut.why)

@@ -1,7 +1,7 @@
 -- What the octets of a topology say is a topology.
 use Rattle.std.proofs.Common.{◌≡◌, ℕ, List, [], ◌∷◌, length, Bool, true, false, if◌then◌else◌, Option, None, Some, Result, Ok, Err, refl, ap, subst}
 use Rattle.std.specs.Prelude.{nat_lt}
-use Rattle.outside.specs.Shelf.{Shelved}
+use Rattle.glb.specs.Loads.{Files}
 use Rattle.topology_text.specs.Faults.{document, faults_of, found_or, reading, reading_of}
 use Rattle.topology_text.specs.Names.{entries_of}
 use Rattle.topology_text.specs.Plan.{IsPlan, Plan}
@@ -43,6 +43,6 @@ within {T = T} kind bytes t = go (nat_lt kind.limit (length bytes))
     go true h = absurd (cc)
     go false h = h
 
-pub is_plan : (files : Option Shelved) (name : List ℕ) (t : Plan) → Says topology_file files name t → IsPlan t
+pub is_plan : (files : Option Files) (name : List ℕ) (t : Plan) → Says topology_file files name t → IsPlan t
 unfolding topology_of
 is_plan files name t says = bytes_are_plan says.0 t (read_as (reading says.0) t (within topology_file says.0 t says.2))

@@ -1,12 +1,12 @@
 -- A command that stopped, by what its files come to.
-use Rattle.std.proofs.Common.{◌≡◌, ◌∙◌, ap, inl, inr, sym, subst}
+use Rattle.std.proofs.Common.{◌≡◌, ◌∙◌, ap, inl, inr, refl, sym, subst}
 use Rattle.std.specs.Prelude.{Option, Result, Ok, Err}
 use Rattle.glb.specs.declared.ending.Report.{Report}
 use Rattle.outside.specs.Sink.{Written}
 use Rattle.glb.specs.declared.ending.Stop.{Stop}
 use Rattle.glb.specs.declared.ending.Stop.TheVariants as stop
 use Rattle.glb.specs.declared.status.Status.{Status}
-use Rattle.glb.specs.Ending.{IsReport, StopsBy}
+use Rattle.glb.specs.Ending.{EndsBy, IsReport, StopsBy}
 use Rattle.glb.specs.Outcome.{Outcome, RunsBy}
 
 -- the outcome of a command that stopped with a refusal is of the refusal's kind
@@ -37,3 +37,10 @@ stopped_end s load ended h same is = same ∙ ap Err (same_stop s stop.SourceFau
 -- a file that was read is no load that failed
 pub read_whole : {X : Type 0} (x : X) (load : Result X Stop) → load ≡ Ok x → load ≡ Err stop.SourceFault → ⊥
 read_whole x load h is = cc
+
+-- what holds where a command ended with a text
+pub ended_so : (P : Type 0) (ended : Result Report Stop) → EndsBy (λ _. P) ended → (ended ≡ Err stop.SourceFault → ⊥) → (ended ≡ Err stop.NoMemory → ⊥) → P
+ended_so P (Ok report) h source memory = h
+ended_so P (Err (stop.Refused text)) h source memory = h
+ended_so P (Err stop.SourceFault) h source memory = absurd (source refl)
+ended_so P (Err stop.NoMemory) h source memory = absurd (memory refl)

@@ -1,6 +1,6 @@
 -- What is due to a command comes with a text on what the files say.
 use Rattle.std.proofs.Common.{◌≡◌, ℕ, List, [], ◌∷◌, length, Option, ap, sym, subst, inl, inr}
-use Rattle.outside.specs.Shelf.{Shelved}
+use Rattle.glb.specs.Loads.{Files}
 use Rattle.stable_check.specs.declared.verdict.Verdict.{Verdict}
 use Rattle.stable_check.specs.declared.verdict.Verdict.TheVariants.{Good, BadLine, OverDemand, OverLimit, OverCapacity, Blocking, BadName}
 use Rattle.topology_text.specs.Plan.{Plan}
@@ -22,7 +22,7 @@ use Rattle.glb.specs.Run.{IsDue}
 one_text : (due : Outcome) (status : Status) (text : List ℕ) → IsSaidStatus status → due ≡ record { status = status; pieces = text ∷ [] } → IsSaid due
 one_text due status text has is = record { status = subst IsSaidStatus (sym (ap (λ (o : Outcome). o.status) is)) has; one = ap (λ (o : Outcome). length o.pieces) is }
 
-reads_said : {T : Type 0} (kind : Kind T) (files : Option Shelved) (name : List ℕ) (Next : T → Outcome → Type 0) (due : Outcome) → ((t : T) → Next t due → IsSaid due) → Reads kind files name Next due → IsSaid due
+reads_said : {T : Type 0} (kind : Kind T) (files : Option Files) (name : List ℕ) (Next : T → Outcome → Type 0) (due : Outcome) → ((t : T) → Next t due → IsSaid due) → Reads kind files name Next due → IsSaid due
 reads_said kind files name Next due next (inl refused) = one_text due _ refused.1 tt refused.4
 reads_said kind files name Next due next (inr read) = next read.0 read.2
 
@@ -53,7 +53,7 @@ repair_said : (t : Plan) (m : Mapped) (c : List Change) (due : Outcome) → IsRe
 repair_said t m c due (inl repaired) = record { status = subst IsSaidStatus (sym repaired.status) tt; one = ap (λ (ps : List (List ℕ)). length ps) repaired.repaired.text }
 repair_said t m c due (inr other) = one_text due _ _ tt other.outcome
 
-pub due_said : (ask : Ask) (files : Option Shelved) (due : Outcome) → IsDue ask files due → IsSaid due
+pub due_said : (ask : Ask) (files : Option Files) (due : Outcome) → IsDue ask files due → IsSaid due
 due_said (check topology map) files due =
     reads_said topology_file files topology (λ t. Reads (map_file t) files map (IsJudged t)) due (λ t. reads_said (map_file t) files map (IsJudged t) due (λ m. judged_said t m due))
 due_said (map_from topology) files due = reads_said topology_file files topology IsMapped due (λ t. mapped_said t due)

@@ -11,12 +11,11 @@ use Rattle.demand_feed.specs.declared.run.FeedEnd.{FeedEnd}
 use Rattle.demand_feed.specs.declared.run.FeedEnd.TheVariants as feed
 use Rattle.drive.specs.Done.{LaneTold, StreamLaneTold}
 use Rattle.drive.specs.Streams.{AreStreamsDone, IsStreamDone}
-use Rattle.drive.specs.Driven.{AreEnds, IsDriven, Lent}
+use Rattle.drive.specs.Driven.{AreEnds, IsDriven, LentTold}
 use Rattle.drive.specs.Feeds.{AllStand, NoneFell}
 use Rattle.glb.specs.Feeds.{with_feeds}
 use Rattle.glb.specs.Words.{Service, streams_of}
 use Rattle.glb.specs.declared.status.Status.{Status}
-use Rattle.glb.specs.Told.{Stage}
 use Rattle.glb.specs.Causes.{AnyFeed, AnyLane, AnyServer, HasCellFault, HasEightPortFaults, HasFeedFault, HasHeard, HasTaken, OfStream}
 use Rattle.glb.specs.Serve.{IsServed, all_ends, is_cell_fault, is_port_fault, is_spent, status_of}
 use Rattle.glb.specs.Starting.{at_place, has_any, status_at}
@@ -41,7 +40,7 @@ by_ends : (end : FeedEnd) (ends : List Ended) (places : List (Option Ended)) (st
 by_ends end ends places stream_end are = rw (by_test is_port_fault ends places stream_end are, by_test is_spent ends places stream_end are, by_test is_cell_fault ends places stream_end are) refl
 
 -- where some lane ended so, a lane for datagrams or that for conversations has that
-any_server : (test : Ended → Bool) (P : LaneTold → LaneTold → Type 0) (Q : StreamLaneTold → StreamLaneTold → Type 0) (ask : Service) (ends : List Ended) (stream_end : Option Ended) (before after : Lent) → length ends ≡ ask.workers → length (option_to_list stream_end) ≡ streams_of ask.tcp
+any_server : (test : Ended → Bool) (P : LaneTold → LaneTold → Type 0) (Q : StreamLaneTold → StreamLaneTold → Type 0) (ask : Service) (ends : List Ended) (stream_end : Option Ended) (before after : LentTold) → length ends ≡ ask.workers → length (option_to_list stream_end) ≡ streams_of ask.tcp
     → (list_any test ends ≡ true → AnyLane (length ends) P before.lanes after.lanes) → ((e : Ended) → stream_end ≡ Some e → test e ≡ true → Q before.stream after.stream) → list_any test (all_ends ends stream_end) ≡ true → AnyServer ask P Q before after
 any_server test P Q ask ends stream_end before after as_many as_asked lanes stream some =
     elim (or_parts (list_any test ends) (list_any test (option_to_list stream_end)) (sym (list_any-append test ends (option_to_list stream_end)) ∙ some)) [
@@ -63,13 +62,13 @@ any_server test P Q ask ends stream_end before after as_many as_asked lanes stre
     of_stream (Some at) None same f h = absurd (cc)
     of_stream (Some at) (Some x) same f h = f x refl (is_true (test x) h)
 
-pub is_served : (turns : ℕ) (ask : Service) (first : Version) (before after : Stage) (end : FeedEnd) (places : List (Option Ended)) (stream_end : Option Ended) (result : Status)
-    → (ends : List Ended) × (length ends ≡ ask.workers) × AreEnds ends places × IsDriven turns first end ends stream_end (with_feeds (length ask.more) before.lent) (with_feeds (length ask.more) after.lent) → drop (length ask.more) after.lent.more ≡ drop (length ask.more) before.lent.more → drop (length ask.more) after.opens ≡ drop (length ask.more) before.opens → length (option_to_list stream_end) ≡ streams_of ask.tcp
-    → result ≡ status_at end places stream_end → (end ≡ feed.SourceFault → Rose before.lent.feed.faults after.lent.feed.faults ⊎ AnyFeed (length ask.more) HasFeedFault before.lent.more after.lent.more)
-    → (end ≢ feed.SourceFault → (end ≡ feed.SinkFault → ask.more ≡ []) → (after.lent.feed.faults ≡ before.lent.feed.faults) × AllStand before.lent.more after.lent.more) → (end ≡ feed.SinkFault → Rose before.out_faults after.out_faults ⊎ Rose before.maps_faults after.maps_faults)
-    → (end ≢ feed.SinkFault → (after.out_faults ≡ before.out_faults) × (after.maps_faults ≡ before.maps_faults))
-    → (before.lent.feed.faults ≤ after.lent.feed.faults) × (before.out_faults ≤ after.out_faults) × (before.maps_faults ≤ after.maps_faults) × NoneFell before.lent.more after.lent.more → IsServed turns ask first before after result
-is_served turns ask first before after end places stream_end result (ends, as_many, are, driven) behind opens as_asked answer source stays sink sink_stays later =
+pub is_served : (turns : ℕ) (ask : Service) (first : Version) (before after : LentTold) (end : FeedEnd) (places : List (Option Ended)) (stream_end : Option Ended) (result : Status)
+    → (ends : List Ended) × (length ends ≡ ask.workers) × AreEnds ends places × IsDriven turns first end ends stream_end (with_feeds (length ask.more) before) (with_feeds (length ask.more) after) → drop (length ask.more) after.more ≡ drop (length ask.more) before.more → length (option_to_list stream_end) ≡ streams_of ask.tcp
+    → result ≡ status_at end places stream_end → (end ≡ feed.SourceFault → Rose before.feed.faults after.feed.faults ⊎ AnyFeed (length ask.more) HasFeedFault before.more after.more)
+    → (end ≢ feed.SourceFault → (end ≡ feed.SinkFault → ask.more ≡ []) → (after.feed.faults ≡ before.feed.faults) × AllStand before.more after.more) → (end ≡ feed.SinkFault → Rose before.out.faults after.out.faults ⊎ Rose before.maps.faults after.maps.faults)
+    → (end ≢ feed.SinkFault → (after.out.faults ≡ before.out.faults) × (after.maps.faults ≡ before.maps.faults))
+    → (before.feed.faults ≤ after.feed.faults) × (before.out.faults ≤ after.out.faults) × (before.maps.faults ≤ after.maps.faults) × NoneFell before.more after.more → IsServed turns ask first before after result
+is_served turns ask first before after end places stream_end result (ends, as_many, are, driven) behind as_asked answer source stays sink sink_stays later =
     let all = all_ends ends stream_end in
     let p = list_any is_port_fault all in
     let s = list_any is_spent all in
@@ -83,24 +82,23 @@ is_served turns ask first before after end places stream_end result (ends, as_ma
       as_asked = as_asked;
       driven = driven;
       behind = behind;
-      opens = opens;
       result_is = is;
       source = source;
       source_stays = stays;
       sink = sink;
       sink_stays = sink_stays;
-      port = λ h. any_server is_port_fault HasEightPortFaults HasEightPortFaults ask ends stream_end before.lent after.lent as_many as_asked (any_port turns first driven.rest ends before.lent.lanes after.lent.lanes driven.lanes)
-          (λ e same fault. stream_port turns first driven.rest (length ends) before.lent.stream after.lent.stream e fault (done_by e same)) (port_means end p s c (sym h ∙ is));
+      port = λ h. any_server is_port_fault HasEightPortFaults HasEightPortFaults ask ends stream_end before after as_many as_asked (any_port turns first driven.rest ends before.lanes after.lanes driven.lanes)
+          (λ e same fault. stream_port turns first driven.rest (length ends) before.stream after.stream e fault (done_by e same)) (port_means end p s c (sym h ∙ is));
       spent = λ h. spent_by (spent_means end p s c (sym h ∙ is));
-      cell = λ h. any_server is_cell_fault (HasCellFault (length (first ∷ driven.rest))) (HasCellFault (length (first ∷ driven.rest))) ask ends stream_end before.lent after.lent as_many as_asked (any_cell turns first driven.rest ends before.lent.lanes after.lent.lanes driven.lanes)
-          (λ e same fault. stream_cell turns first driven.rest (length ends) before.lent.stream after.lent.stream e fault (done_by e same)) (cell_means end p s c (sym h ∙ is));
+      cell = λ h. any_server is_cell_fault (HasCellFault (length (first ∷ driven.rest))) (HasCellFault (length (first ∷ driven.rest))) ask ends stream_end before after as_many as_asked (any_cell turns first driven.rest ends before.lanes after.lanes driven.lanes)
+          (λ e same fault. stream_cell turns first driven.rest (length ends) before.stream after.stream e fault (done_by e same)) (cell_means end p s c (sym h ∙ is));
       later = later;
     }
   where
-    done_by : (e : Ended) → stream_end ≡ Some e → IsStreamDone turns first driven.rest (length ends) before.lent.stream after.lent.stream e
-    done_by e same = subst (λ (x : Option Ended). AreStreamsDone turns first driven.rest (length ends) x before.lent.stream after.lent.stream) same driven.stream
+    done_by : (e : Ended) → stream_end ≡ Some e → IsStreamDone turns first driven.rest (length ends) before.stream after.stream e
+    done_by e same = subst (λ (x : Option Ended). AreStreamsDone turns first driven.rest (length ends) x before.stream after.stream) same driven.stream
 
-    spent_by : (end ≡ feed.Spent) ⊎ (list_any is_spent (all_ends ends stream_end) ≡ true) → (end ≡ feed.Spent) ⊎ AnyServer ask (HasTaken turns) (HasHeard turns) before.lent after.lent
+    spent_by : (end ≡ feed.Spent) ⊎ (list_any is_spent (all_ends ends stream_end) ≡ true) → (end ≡ feed.Spent) ⊎ AnyServer ask (HasTaken turns) (HasHeard turns) before after
     spent_by (inl h) = inl h
-    spent_by (inr h) = inr (any_server is_spent (HasTaken turns) (HasHeard turns) ask ends stream_end before.lent after.lent as_many as_asked (any_spent turns first driven.rest ends before.lent.lanes after.lent.lanes driven.lanes)
-        (λ e same fault. stream_spent turns first driven.rest (length ends) before.lent.stream after.lent.stream e fault (done_by e same)) h)
+    spent_by (inr h) = inr (any_server is_spent (HasTaken turns) (HasHeard turns) ask ends stream_end before after as_many as_asked (any_spent turns first driven.rest ends before.lanes after.lanes driven.lanes)
+        (λ e same fault. stream_spent turns first driven.rest (length ends) before.stream after.stream e fault (done_by e same)) h)

@@ -6,13 +6,15 @@ use Rattle.topology_text.specs.Plan.{Plan}
 use Rattle.published_map.specs.Version.{Version}
 use Rattle.demand_feed.specs.declared.run.FeedEnd.{FeedEnd}
 use Rattle.demand_feed.specs.declared.run.FeedEnd.TheVariants as feed
+use Rattle.outside.specs.Faults.{DeviceState}
+use Rattle.outside.specs.Source.{Fed}
+use Rattle.outside.specs.Sink.{Written}
 use Rattle.glb.specs.declared.status.Status.{Status}
 use Rattle.glb.specs.declared.status.Status.TheVariants as status
 use Rattle.glb.specs.Serve.{IsFirstSession, IsSession, IsServed, IsStarted, all_ends, all_ready, is_cell_fault, is_port_fault, is_spent, status_by, status_of, then_failed}
 use Rattle.glb.specs.Starting.{IsSessionLater}
-use Rattle.glb.specs.Told.{Stage}
-use Rattle.drive.specs.Driven.{Lent}
-use Rattle.drive.specs.Feeds.{AllStand, FeedTold}
+use Rattle.drive.specs.Driven.{LentTold}
+use Rattle.drive.specs.Feeds.{AllStand}
 use Rattle.glb.proofs.Named.{failed_feed, fault_from, fell_from, opened_fell, opened_stand, stand_fell, stand_on}
 
 by_source : (p s m c : Bool) → status.SourceFault ≡ status_by p s m c → ⊥
@@ -44,34 +46,34 @@ sink_means feed.NoMemory p s c h = absurd (by_sink p s true c h)
 sink_means feed.Spent p s c h = absurd (by_sink p true false c h)
 
 -- the counts of two moments are the same
-record IsSameCounts (before after : Stage) : Type 0 where
-  feed : after.lent.feed.faults ≡ before.lent.feed.faults
-  more : AllStand before.lent.more after.lent.more
-  out : after.out_faults ≡ before.out_faults
-  maps : after.maps_faults ≡ before.maps_faults
+record IsSameCounts (before after : LentTold) : Type 0 where
+  feed : after.feed.faults ≡ before.feed.faults
+  more : AllStand before.more after.more
+  out : after.out.faults ≡ before.out.faults
+  maps : after.maps.faults ≡ before.maps.faults
 
--- nothing but what is lent was touched, and of that no feed
-lent_alone : (before after : Stage) → after ≡ record before { lent = after.lent } → after.lent.feed ≡ before.lent.feed → after.lent.more ≡ before.lent.more → IsSameCounts before after
-lent_alone before after rest feed more = record {
-  feed = ap (λ (x : FeedTold). x.faults) feed;
-  more = ap (map (λ (x : FeedTold). x.faults)) more;
-  out = ap (λ (s : Stage). s.out_faults) rest;
-  maps = ap (λ (s : Stage). s.maps_faults) rest;
+-- no feed and no output was touched
+untouched : (before after : LentTold) → after.feed ≡ before.feed → after.more ≡ before.more → after.out ≡ before.out → after.maps ≡ before.maps → IsSameCounts before after
+untouched before after feed more out maps = record {
+  feed = ap (λ (x : DeviceState Fed). x.faults) feed;
+  more = ap (map (λ (x : DeviceState Fed). x.faults)) more;
+  out = ap (λ (x : DeviceState Written). x.faults) out;
+  maps = ap (λ (x : DeviceState Written). x.faults) maps;
 }
 
 -- all that was to be opened is open
-all_open : (ask : Service) (first : Version) (before after : Stage) → IsStarted ask first before after → IsSameCounts before after
+all_open : (ask : Service) (first : Version) (before after : LentTold) → IsStarted ask first before after → IsSameCounts before after
 all_open ask first before after start = record {
-  feed = ap (λ (l : Lent). l.feed.faults) start.lent;
-  more = opened_stand (length ask.more) before.lent.more after.lent.more start.named.feeds;
-  out = ap (λ (s : Stage). s.out_faults) start.rest;
-  maps = ap (λ (s : Stage). s.maps_faults) start.rest;
+  feed = ap (λ (l : LentTold). l.feed.faults) start.rest;
+  more = opened_stand ask.more (length ask.more) before.more after.more start.named;
+  out = ap (λ (l : LentTold). l.out.faults) start.rest;
+  maps = start.stays;
 }
 
-no_fault : (ask : Service) (before after : Stage) (result : Status) → IsSameCounts before after → (result ≡ status.SourceFault → ⊥) → (result ≡ status.SinkFault → ⊥) → IsSessionLater ask before after result
+no_fault : (ask : Service) (before after : LentTold) (result : Status) → IsSameCounts before after → (result ≡ status.SourceFault → ⊥) → (result ≡ status.SinkFault → ⊥) → IsSessionLater ask before after result
 no_fault ask before after result same source sink = record {
   feed = omega (arith, same.feed);
-  more = stand_fell before.lent.more after.lent.more same.more;
+  more = stand_fell before.more after.more same.more;
   out = omega (arith, same.out);
   maps = omega (arith, same.maps);
   source = λ h. absurd (source h);
@@ -81,7 +83,7 @@ no_fault ask before after result same source sink = record {
   maps_stay = λ none. same.maps;
 }
 
-served_later : (turns : ℕ) (ask : Service) (first : Version) (before after : Stage) (result : Status) → IsServed turns ask first before after result → IsSessionLater ask before after result
+served_later : (turns : ℕ) (ask : Service) (first : Version) (before after : LentTold) (result : Status) → IsServed turns ask first before after result → IsSessionLater ask before after result
 served_later turns ask first before after result s = record {
   feed = s.later.0;
   more = s.later.3;
@@ -98,42 +100,42 @@ served_later turns ask first before after result s = record {
     ended e = s.result_is ∙ ap (λ x. status_of x (list_any is_port_fault (all_ends s.ends s.stream_end)) (list_any is_spent (all_ends s.ends s.stream_end)) (list_any is_cell_fault (all_ends s.ends s.stream_end))) e
 
 -- what is so from a moment on is so from one with the same counts
-from_same : (ask : Service) (a b c : Stage) (result : Status) → IsSameCounts a b → IsSessionLater ask b c result → IsSessionLater ask a c result
+from_same : (ask : Service) (a b c : LentTold) (result : Status) → IsSameCounts a b → IsSessionLater ask b c result → IsSessionLater ask a c result
 from_same ask a b c result same later = record {
   feed = omega (arith, same.feed, later.feed);
-  more = fell_from a.lent.more b.lent.more c.lent.more same.more later.more;
+  more = fell_from a.more b.more c.more same.more later.more;
   out = omega (arith, same.out, later.out);
   maps = omega (arith, same.maps, later.maps);
-  source = λ h. elim (later.source h) [ inl rose ↦ inl (omega (arith, same.feed, rose)) | inr rose ↦ inr (fault_from (length ask.more) a.lent.more b.lent.more c.lent.more same.more rose) ];
+  source = λ h. elim (later.source h) [ inl rose ↦ inl (omega (arith, same.feed, rose)) | inr rose ↦ inr (fault_from (length ask.more) a.more b.more c.more same.more rose) ];
   sink = λ h. elim (later.sink h) [ inl r ↦ inl (omega (arith, same.out, r)) | inr r ↦ inr (omega (arith, same.maps, r)) ];
-  feed_stays = λ none one. let stays = later.feed_stays none one in (stays.0 ∙ same.feed, stand_on a.lent.more b.lent.more c.lent.more same.more stays.1);
+  feed_stays = λ none one. let stays = later.feed_stays none one in (stays.0 ∙ same.feed, stand_on a.more b.more c.more same.more stays.1);
   out_stays = λ none. later.out_stays none ∙ same.out;
   maps_stay = λ none. later.maps_stay none ∙ same.maps;
 }
 
-started_later : (turns : ℕ) (ask : Service) (first : Version) (before after : Stage) (result : Status) → IsFirstSession turns ask first before after result → IsSessionLater ask before after result
+started_later : (turns : ℕ) (ask : Service) (first : Version) (before after : LentTold) (result : Status) → IsFirstSession turns ask first before after result → IsSessionLater ask before after result
 started_later turns ask first before after result (inl shut) =
-    no_fault ask before after result (lent_alone before after shut.rest (ap (λ (l : Lent). l.feed) shut.lent) (ap (λ (l : Lent). l.more) shut.lent)) (λ h. let is = shut.why in cc) (λ h. let is = shut.why in cc)
+    no_fault ask before after result (untouched before after (ap (λ (l : LentTold). l.feed) shut.rest) (ap (λ (l : LentTold). l.more) shut.rest) (ap (λ (l : LentTold). l.out) shut.rest) (ap (λ (l : LentTold). l.maps) shut.rest)) (λ h. let is = shut.why in cc) (λ h. let is = shut.why in cc)
 started_later turns ask first before after result (inr (inl shut)) = record {
-  feed = let same = ap (λ (l : Lent). l.feed.faults) shut.lent in omega (arith, same);
-  more = opened_fell (then_failed shut.named.0) before.lent.more after.lent.more shut.named.2.feeds;
-  out = let same = ap (λ (s : Stage). s.out_faults) shut.rest in omega (arith, same);
-  maps = let same = ap (λ (s : Stage). s.maps_faults) shut.rest in omega (arith, same);
-  source = λ h. inr (failed_feed shut.named.0 (length ask.more) before.lent.more after.lent.more shut.named.1 shut.named.2.feeds);
+  feed = let same = ap (λ (l : LentTold). l.feed.faults) shut.rest in omega (arith, same);
+  more = opened_fell ask.more (then_failed shut.named.0) before.more after.more shut.named.2;
+  out = let same = ap (λ (l : LentTold). l.out.faults) shut.rest in omega (arith, same);
+  maps = let same = ap (λ (l : LentTold). l.maps.faults) shut.rest in omega (arith, same);
+  source = λ h. inr (failed_feed ask.more shut.named.0 (length ask.more) before.more after.more shut.named.1 shut.named.2);
   sink = λ h. let is = shut.why in absurd (cc);
   feed_stays = λ none one. absurd (none shut.why);
-  out_stays = λ none. ap (λ (s : Stage). s.out_faults) shut.rest;
-  maps_stay = λ none. ap (λ (s : Stage). s.maps_faults) shut.rest;
+  out_stays = λ none. ap (λ (l : LentTold). l.out.faults) shut.rest;
+  maps_stay = λ none. ap (λ (l : LentTold). l.maps.faults) shut.rest;
 }
 started_later turns ask first before after result (inr (inr (inl unput))) = record {
-  feed = let same = ap (λ (l : Lent). l.feed.faults) unput.lent in omega (arith, same);
-  more = opened_fell (all_ready (length ask.more)) before.lent.more after.lent.more unput.named.feeds;
-  out = let same = ap (λ (s : Stage). s.out_faults) unput.rest in omega (arith, same);
+  feed = let same = ap (λ (l : LentTold). l.feed.faults) unput.rest in omega (arith, same);
+  more = opened_fell ask.more (all_ready (length ask.more)) before.more after.more unput.named;
+  out = let same = ap (λ (l : LentTold). l.out.faults) unput.rest in omega (arith, same);
   maps = let rose = unput.rose in omega (arith, rose);
   source = λ h. let is = unput.why in absurd (cc);
   sink = λ h. inr unput.rose;
-  feed_stays = λ none one. (ap (λ (l : Lent). l.feed.faults) unput.lent, opened_stand (length ask.more) before.lent.more after.lent.more unput.named.feeds);
-  out_stays = λ none. ap (λ (s : Stage). s.out_faults) unput.rest;
+  feed_stays = λ none one. (ap (λ (l : LentTold). l.feed.faults) unput.rest, opened_stand ask.more (length ask.more) before.more after.more unput.named);
+  out_stays = λ none. ap (λ (l : LentTold). l.out.faults) unput.rest;
   maps_stay = λ none. absurd (none unput.why);
 }
 started_later turns ask first before after result (inr (inr (inr (inl h)))) =
@@ -141,9 +143,9 @@ started_later turns ask first before after result (inr (inr (inr (inl h)))) =
 started_later turns ask first before after result (inr (inr (inr (inr (started, start, served))))) =
     from_same ask before started after result (all_open ask first before started start) (served_later turns ask first started after result served)
 
-pub session_later : (turns : ℕ) (ask : Service) (t : Plan) (before after : Stage) (result : Status) → IsSession turns ask t before after result → IsSessionLater ask before after result
+pub session_later : (turns : ℕ) (ask : Service) (t : Plan) (before after : LentTold) (result : Status) → IsSession turns ask t before after result → IsSessionLater ask before after result
 session_later turns ask t before after result (inl unopened) =
-    no_fault ask before after result (lent_alone before after unopened.rest (ap (λ (l : Lent). l.feed) unopened.lent) (ap (λ (l : Lent). l.more) unopened.lent))
+    no_fault ask before after result (untouched before after (ap (λ (l : LentTold). l.feed) unopened.rest) (ap (λ (l : LentTold). l.more) unopened.rest) (ap (λ (l : LentTold). l.out) unopened.rest) (ap (λ (l : LentTold). l.maps) unopened.rest))
     (λ h. elim unopened.why [ inl is ↦ cc | inr is ↦ let fault = is.0 in cc ]) (λ h. elim unopened.why [ inl is ↦ cc | inr is ↦ let fault = is.0 in cc ])
 session_later turns ask t before after result (inr (placed, first, place, is_first, session)) =
-    from_same ask before placed after result (lent_alone before placed place.rest (ap (λ (l : Lent). l.feed) place.lent) (ap (λ (l : Lent). l.more) place.lent)) (started_later turns ask first placed after result session)
+    from_same ask before placed after result (untouched before placed (ap (λ (l : LentTold). l.feed) place.rest) (ap (λ (l : LentTold). l.more) place.rest) (ap (λ (l : LentTold). l.out) place.rest) (ap (λ (l : LentTold). l.maps) place.rest)) (started_later turns ask first placed after result session)

@@ -3,6 +3,7 @@ use Rattle.std.proofs.Common.{◌≡◌, ◌⊎◌, inl, inr, ℕ, zero, suc, �
 use Rattle.std.specs.Prelude.{Option, Some, ◌||◌, if◌then◌else◌}
 use Rattle.std.specs.List.{filter, list_any}
 use Rattle.std.proofs.lemmas.List.{map-append}
+use Rattle.outside.specs.Faults.{BothTell, DeviceState}
 use Rattle.outside.specs.Source.{Fed}
 use Rattle.topology_text.specs.Plan.{Plan}
 use Rattle.demand_feed.specs.declared.run.FeedEnd.{FeedEnd}
@@ -20,8 +21,10 @@ use Rattle.mapper.specs.Feeding.{IsFeed}
 use Rattle.mapper.specs.Items.{AllWork, WorksAs}
 use Rattle.mapper.specs.Scenes.{Scene}
 use Rattle.mapper.specs.Words.{map_text}
-use Rattle.drive.specs.Feeds.{AreFed, AreFedTogether, AreSent, FeedTold}
+use Rattle.demand_feed.specs.Runs.{HasRead}
+use Rattle.drive.specs.Feeds.{AreFed, AreFedTogether, AreSent}
 use Rattle.glb.specs.Causes.{AnyFeed, HasGiven, HasFeedGiven}
+use Rattle.glb.proofs.Loads.{tell_weaker}
 
 same_number : (n : ℕ) → (n == n) ≡ true
 same_number n = eq-eqb n n refl
@@ -85,6 +88,11 @@ is_that ends.SourceFault h = absurd (cc)
 is_that ends.SinkFault h = absurd (cc)
 is_that ends.NoMemory h = absurd (cc)
 
+-- a feed that was read was opened under no further name meanwhile
+read_meanwhile : (pieces : List (List ℕ)) (x y : Option Fed) → BothTell x y (HasRead pieces) → BothTell x y (λ b c. HasRead pieces (record b { names = c.names }) c)
+read_meanwhile pieces x y h = tell_weaker (HasRead pieces) (λ b c. HasRead pieces (record b { names = c.names }) c) x y
+    (λ b c r. record { left = r.left; given = r.given; shortest = r.shortest; sizes = r.sizes; names = refl }) h
+
 -- a feed whose feeder sent that its turns were taken gave as many pieces
 spent_given : (t : Plan) (turns : ℕ) (fed fed' : Option Fed) (sent : List What) → HasSent t turns fed fed' sent → list_any is_spent_end sent ≡ true → HasGiven turns fed fed'
 spent_given t turns fed fed' sent h some = go (unfold HasSent in h)
@@ -96,7 +104,7 @@ spent_given t turns fed fed' sent h some = go (unfold HasSent in h)
         given end is s
       where
         given : (e : FeedEnd) → e ≡ ends.Spent → IsSentOf t turns e fed fed' sent → HasGiven turns fed fed'
-        given ends.Spent is r = (r.run.0, r.run.1, r.run.2.0, r.run.2.1)
+        given ends.Spent is r = (r.run.0, read_meanwhile r.run.0 fed fed' r.run.1, r.run.2.0, r.run.2.1)
         given ends.Ended is r = absurd (cc)
         given ends.SourceFault is r = absurd (cc)
         given ends.SinkFault is r = absurd (cc)
@@ -104,9 +112,9 @@ spent_given t turns fed fed' sent h some = go (unfold HasSent in h)
     go (inr (is, same)) = let some' : list_any is_spent_end (what.End ends.NoMemory ∷ []) ≡ true = subst (λ (ws : List What). list_any is_spent_end ws ≡ true) is some in absurd (cc)
 
 -- one of these feeds gave as many pieces as there are turns
-any_gave : (t : Plan) (turns n k : ℕ) (sent : ℕ → List What) (before after : List FeedTold) → AreSent t turns n sent before after → k < length before → list_any is_spent_end (sent (n + k)) ≡ true → AnyFeed (length before) (HasFeedGiven turns) before after
+any_gave : (t : Plan) (turns n k : ℕ) (sent : ℕ → List What) (before after : List (DeviceState Fed)) → AreSent t turns n sent before after → k < length before → list_any is_spent_end (sent (n + k)) ≡ true → AnyFeed (length before) (HasFeedGiven turns) before after
 any_gave t turns n k sent [] after h lt some = absurd (omega (arith, lt))
-any_gave t turns n zero sent (b ∷ before) (c ∷ after) h lt some = inl (spent_given t turns b.fed c.fed (sent n) h.0 (subst (λ (i : ℕ). list_any is_spent_end (sent i) ≡ true) (omega arith) some))
+any_gave t turns n zero sent (b ∷ before) (c ∷ after) h lt some = inl (spent_given t turns b.past c.past (sent n) h.0 (subst (λ (i : ℕ). list_any is_spent_end (sent i) ≡ true) (omega arith) some))
 any_gave t turns n (suc k) sent (b ∷ before) (c ∷ after) h lt some = inr (any_gave t turns (n + 1) k sent before after h.1 (omega (arith, lt)) (subst (λ (i : ℕ). list_any is_spent_end (sent i) ≡ true) (omega arith) some))
 any_gave t turns n k sent (b ∷ before) [] h lt some = absurd h
 
@@ -127,7 +135,7 @@ among zero (suc n) = inl (omega arith)
 among (suc k) (suc n) = elim (among k n) [ inl h ↦ inl (omega (arith, h)) | inr h ↦ inr (omega (arith, h)) ]
 
 -- several feeds of which one took all its turns
-together_gave : (t : Plan) (turns : ℕ) (end : FeedEnd) (feed feed' : FeedTold) (more after : List FeedTold) (start stop : Scene) → end ≡ ends.Spent → AreFedTogether t turns end feed feed' more after start stop → AnyFeed (length (feed ∷ more)) (HasFeedGiven turns) (feed ∷ more) (feed' ∷ after)
+together_gave : (t : Plan) (turns : ℕ) (end : FeedEnd) (feed feed' : DeviceState Fed) (more after : List (DeviceState Fed)) (start stop : Scene) → end ≡ ends.Spent → AreFedTogether t turns end feed feed' more after start stop → AnyFeed (length (feed ∷ more)) (HasFeedGiven turns) (feed ∷ more) (feed' ∷ after)
 together_gave t turns end feed feed' more after start stop is f = go (elim f.run.ended [ inl h ↦ sym is ∙ h.0 | inr h ↦ let clash : ends.Spent ≡ ends.SinkFault = sym is ∙ h.0 in absurd (cc) ])
   where
     go : ends.Spent ≡ first_end f.items → AnyFeed (length (feed ∷ more)) (HasFeedGiven turns) (feed ∷ more) (feed' ∷ after)
@@ -159,19 +167,19 @@ all_work_texts [] c d texts h = rw h texts
 all_work_texts (x ∷ xs) c d texts h = all_work_texts xs h.0 d (works_texts (Some x.feeder) x.what c h.0 texts h.1) h.2
 
 -- what came of several feeds that ended
-pub together_worked : (t : Plan) (turns : ℕ) (feed feed' : FeedTold) (more after : List FeedTold) (start stop : Scene) → (f : AreFedTogether t turns ends.Ended feed feed' more after start stop) → AllWorked f.items start (record stop { pace = f.run.calls })
+pub together_worked : (t : Plan) (turns : ℕ) (feed feed' : DeviceState Fed) (more after : List (DeviceState Fed)) (start stop : Scene) → (f : AreFedTogether t turns ends.Ended feed feed' more after start stop) → AllWorked f.items start (record stop { pace = f.run.calls })
 together_worked t turns feed feed' more after start stop f = elim f.run.ended [ inl h ↦ h.1 | inr h ↦ let clash = h.0 in absurd (cc) ]
 
 -- what a run over a feed gave that was spent
 given_of : (t : Plan) (turns : ℕ) (end : FeedEnd) (fed fed' : Option Fed) (before after : Scene) → end ≡ ends.Spent → IsFeed t turns end fed fed' before after → HasGiven turns fed fed'
-given_of t turns ends.Spent fed fed' before after is f = (f.run.0, f.run.1, f.run.2.0, f.run.2.1)
+given_of t turns ends.Spent fed fed' before after is f = (f.run.0, read_meanwhile f.run.0 fed fed' f.run.1, f.run.2.0, f.run.2.1)
 given_of t turns ends.Ended fed fed' before after is f = absurd (cc)
 given_of t turns ends.SourceFault fed fed' before after is f = absurd (cc)
 given_of t turns ends.SinkFault fed fed' before after is f = absurd (cc)
 given_of t turns ends.NoMemory fed fed' before after is f = absurd (cc)
 
 -- where turns were spent, a feed took them
-pub fed_given : (t : Plan) (turns : ℕ) (end : FeedEnd) (feed feed' : FeedTold) (more after : List FeedTold) (start stop : Scene) → end ≡ ends.Spent
+pub fed_given : (t : Plan) (turns : ℕ) (end : FeedEnd) (feed feed' : DeviceState Fed) (more after : List (DeviceState Fed)) (start stop : Scene) → end ≡ ends.Spent
     → AreFed t turns end feed more feed' after start stop → HasFeedGiven turns feed feed' ⊎ AnyFeed (length more) (HasFeedGiven turns) more after
-fed_given t turns end feed feed' [] after start stop is h = inl (given_of t turns end feed.fed feed'.fed start stop is h.0)
+fed_given t turns end feed feed' [] after start stop is h = inl (given_of t turns end feed.past feed'.past start stop is h.0)
 fed_given t turns end feed feed' (m ∷ more) after start stop is h = together_gave t turns end feed feed' (m ∷ more) after start stop is h

@@ -12,7 +12,7 @@ use Rattle.lane_model.specs.Turns.{Turn, entries_of, tries_of}
 use Rattle.demand_feed.specs.declared.run.FeedEnd.{FeedEnd}
 use Rattle.demand_feed.specs.declared.run.FeedEnd.TheVariants as feed
 use Rattle.drive.specs.Feeds.{AreFed}
-use Rattle.mapper.specs.Scenes.{IsPrinted, scene}
+use Rattle.mapper.specs.Scenes.{IsPrinted}
 use Rattle.drive.specs.Closing.{shut}
 use Rattle.drive.specs.Done.{IsDone, IsOverNewest, IsServedLog, LaneTold, ServerTold, StreamLaneTold}
 use Rattle.drive.specs.Streams.{AreStreamsDone, IsStreamDone}
@@ -29,11 +29,12 @@ use Rattle.glb.specs.declared.status.Status.TheVariants as status
 use Rattle.glb.specs.Words.{Service, streams_of}
 use Rattle.glb.specs.Outcome.{Outcome, RunsBy}
 use Rattle.glb.specs.Files.{IsRefused, Says, topology_file}
-use Rattle.drive.specs.Driven.{Lent}
-use Rattle.outside.specs.Faults.{BothTell}
+use Rattle.glb.specs.Loads.{files_between}
+use Rattle.drive.specs.Driven.{LentTold, scene_at}
+use Rattle.outside.specs.Faults.{BothTell, DeviceState}
 use Rattle.outside.specs.Sink.{Written}
 use Rattle.mapper.specs.Words.{map_text}
-use Rattle.glb.specs.Told.{Stage, Surroundings}
+use Rattle.glb.specs.Told.{Surroundings}
 use Rattle.glb.specs.Serve.{IsFirstOf, IsPlaced, IsServeRun, IsServed, IsStarted, all_ends, is_cell_fault, is_port_fault, is_spent, status_by, status_of}
 use Rattle.glb.specs.Served.{AreWellDone, IsStreamWell, IsStreamWellDone, IsWellDone, IsWellServed}
 use Rattle.glb.proofs.Histories.{texts_of}
@@ -91,7 +92,8 @@ well_done turns first rest w b c e d well =
       run = subst (λ h. IsLaneRun replies h w 0 0 (entries_of replies.way d.log) (tries_of d.log)) newest.same d.served_log.run;
       told = d.served_log.told;
       fates = d.served_log.fates;
-      notes = d.served_log.notes;
+      numbers = d.served_log.numbers;
+      notes = d.notes;
       noted = newest.noted;
       last = d.served_log.last.0;
       port = d.port;
@@ -128,7 +130,8 @@ stream_well_done turns first rest w b c e d well =
       rules = d.rules;
       told = d.served_log.told;
       fates = d.served_log.fates;
-      notes = d.served_log.notes;
+      numbers = d.served_log.numbers;
+      notes = d.notes;
       noted = newest.noted;
       last = d.served_log.last.0;
       streams = d.streams;
@@ -180,9 +183,9 @@ ok_parts feed.SinkFault p s c h = absurd (cc)
 ok_parts feed.NoMemory p s c h = let parts = by_parts p s true c h in absurd (cc)
 
 -- a session over a topology
-session_well : (turns : ℕ) (ask : Service) (topology : Plan) (before after : Surroundings) → IsPlan topology → Says topology_file before.files ask.topology topology
-    → (placed started : Stage) (first : Version) → IsPlaced ask before.stage placed → IsFirstOf topology first → IsStarted ask first placed started
-    → IsServed turns ask first started after.stage status.Ok → IsWellServed turns ask before after
+session_well : (turns : ℕ) (ask : Service) (topology : Plan) (before after : Surroundings) → IsPlan topology → Says topology_file (files_between before.files.past after.files.past) ask.topology topology
+    → (placed started : LentTold) (first : Version) → IsPlaced ask before.lent placed → IsFirstOf topology first → IsStarted ask first placed started
+    → IsServed turns ask first started after.lent status.Ok → IsWellServed turns ask before after
 session_well turns ask topology before after plan says placed started first place is_first start served =
     let parts = ok_parts served.end (list_any is_port_fault (all_ends served.ends served.stream_end)) (list_any is_spent (all_ends served.ends served.stream_end)) (list_any is_cell_fault (all_ends served.ends served.stream_end)) served.result_is in
     let ports = both_none is_port_fault served.ends served.stream_end parts.1 in
@@ -190,10 +193,10 @@ session_well turns ask topology before after plan says placed started first plac
     let cells = both_none is_cell_fault served.ends served.stream_end parts.3 in
     let d = served.driven in
     let count = length ask.more in
-    let fed : AreFed topology turns feed.Ended started.lent.feed (take count started.lent.more) after.stage.lent.feed (take count after.stage.lent.more) (scene first (first ∷ []) started.lent.out started.lent.maps started.lent.pace) (scene d.newest (first ∷ d.rest) after.stage.lent.out after.stage.lent.maps after.stage.lent.pace) =
-    subst (λ (t : Plan). AreFed t turns feed.Ended started.lent.feed (take count started.lent.more) after.stage.lent.feed (take count after.stage.lent.more) (scene first (first ∷ []) started.lent.out started.lent.maps started.lent.pace) (scene d.newest (first ∷ d.rest) after.stage.lent.out after.stage.lent.maps after.stage.lent.pace)) is_first.0.plan
-    (subst (λ (e : FeedEnd). AreFed first.plan turns e started.lent.feed (take count started.lent.more) after.stage.lent.feed (take count after.stage.lent.more) (scene first (first ∷ []) started.lent.out started.lent.maps started.lent.pace) (scene d.newest (first ∷ d.rest) after.stage.lent.out after.stage.lent.maps after.stage.lent.pace)) parts.0 d.feed) in
-    let placed_maps : placed.lent.maps ≡ before.stage.lent.maps = ap (λ (l : Lent). l.maps) place.lent in
+    let fed : AreFed topology turns feed.Ended started.feed (take count started.more) after.lent.feed (take count after.lent.more) (scene_at first (first ∷ []) started) (scene_at d.newest (first ∷ d.rest) after.lent) =
+    subst (λ (t : Plan). AreFed t turns feed.Ended started.feed (take count started.more) after.lent.feed (take count after.lent.more) (scene_at first (first ∷ []) started) (scene_at d.newest (first ∷ d.rest) after.lent)) is_first.0.plan
+    (subst (λ (e : FeedEnd). AreFed first.plan turns e started.feed (take count started.more) after.lent.feed (take count after.lent.more) (scene_at first (first ∷ []) started) (scene_at d.newest (first ∷ d.rest) after.lent)) parts.0 d.feed) in
+    let placed_maps : placed.maps ≡ before.lent.maps = ap (λ (l : LentTold). l.maps) place.rest in
     record {
       topology = topology;
       is_plan = plan;
@@ -203,17 +206,17 @@ session_well turns ask topology before after plan says placed started first plac
       newest = d.newest;
       is_first = is_first;
       goes_on = d.goes_on;
-      texts = texts_of topology turns started.lent.feed after.stage.lent.feed (take count started.lent.more) (take count after.stage.lent.more) first d.rest before.stage.lent.maps (scene first (first ∷ []) started.lent.out started.lent.maps started.lent.pace) (scene d.newest (first ∷ d.rest) after.stage.lent.out after.stage.lent.maps after.stage.lent.pace) refl refl
-          (subst (λ (m : Option Written). BothTell m started.lent.maps (IsPrinted (map_text first ∷ []))) placed_maps start.put) fed;
+      texts = texts_of topology turns started.feed after.lent.feed (take count started.more) (take count after.lent.more) first d.rest before.lent.maps.past (scene_at first (first ∷ []) started) (scene_at d.newest (first ∷ d.rest) after.lent) refl refl
+          (subst (λ (m : DeviceState Written). BothTell m.past started.maps.past (IsPrinted (map_text first ∷ []))) placed_maps start.put) fed;
       placed = placed;
       started = started;
       place = place;
       start = start;
       fed = fed;
-      lanes = subst (λ (n : ℕ). AreWellDone turns (first ∷ d.rest) 0 n started.lent.lanes after.stage.lent.lanes) served.as_many
-          (all_well turns first d.rest 0 served.ends started.lent.lanes after.stage.lent.lanes d.lanes ports.0 spents.0 cells.0);
-      stream = stream_well turns first d.rest ask.workers ask.tcp served.stream_end started.lent.stream after.stage.lent.stream served.as_asked
-          (subst (λ (n : ℕ). AreStreamsDone turns first d.rest n served.stream_end started.lent.stream after.stage.lent.stream) served.as_many d.stream) ports.1 spents.1 cells.1;
+      lanes = subst (λ (n : ℕ). AreWellDone turns (first ∷ d.rest) 0 n started.lanes after.lent.lanes) served.as_many
+          (all_well turns first d.rest 0 served.ends started.lanes after.lent.lanes d.lanes ports.0 spents.0 cells.0);
+      stream = stream_well turns first d.rest ask.workers ask.tcp served.stream_end started.stream after.lent.stream served.as_asked
+          (subst (λ (n : ℕ). AreStreamsDone turns first d.rest n served.stream_end started.stream after.lent.stream) served.as_many d.stream) ports.1 spents.1 cells.1;
       served = served;
       one = refl;
     }
@@ -222,7 +225,7 @@ session_well turns ask topology before after plan says placed started first plac
 pub well_served : (turns : ℕ) (ask : Service) (before after : Surroundings) → IsServeRun turns ask before after status.Ok → IsWellServed turns ask before after
 well_served turns ask before after (inl unread) = absurd (not_read unread.run)
   where
-    not_read : RunsBy (IsRefused topology_file before.files ask.topology) before.stage.lent.out after.stage.lent.out status.Ok → ⊥
+    not_read : RunsBy (IsRefused topology_file (files_between before.files.past after.files.past) ask.topology) before.lent.out.past after.lent.out.past status.Ok → ⊥
     not_read (inl whole) = let is : whole.due.status ≡ status.Refused = ap (λ (o : Outcome). o.status) whole.is_due.4 in let same = whole.status in cc
     not_read (inr (inl cut)) = let is = cut.status in cc
     not_read (inr (inr silent)) = elim silent.status [ inl is ↦ cc | inr is ↦ cc ]

@@ -2,7 +2,6 @@
 use Rattle.std.specs.Prelude.{◌≡◌, ◌≢◌, ◌⊎◌, ℕ, List, [], ◌∷◌, Option}
 use Rattle.map_model.specs.Allocation.{IsGood}
 use Rattle.outside.specs.Faults.{BothTell}
-use Rattle.outside.specs.Shelf.{Shelved}
 use Rattle.stable_check.specs.Judgement.{Judges}
 use Rattle.stable_check.specs.declared.verdict.Verdict.{Verdict}
 use Rattle.stable_check.specs.declared.verdict.Verdict.TheVariants.{Good}
@@ -15,6 +14,7 @@ use Rattle.glb.specs.declared.status.Status.TheVariants as status
 use Rattle.glb.specs.Datagram.{Datagram}
 use Rattle.mapper.specs.Scenes.{IsPrinted}
 use Rattle.glb.specs.Outcome.{Outcome, Outside}
+use Rattle.glb.specs.Loads.{Files, files_between}
 use Rattle.glb.specs.Files.{Reads, Says, map_file, topology_file}
 use Rattle.glb.specs.Texts as text
 
@@ -48,11 +48,11 @@ abbrev pub IsAnswered : Datagram → Plan → Mapped → Outcome → Type 0
 IsAnswered d t m due = IsReplied t m d due ⊎ IsNotGood t m due
 
 -- what is due to `answer` for a datagram: the refusal of the topology, or of the map, or the reply of a good map, or the verdict on any other
-abbrev pub IsAnswerDue : List ℕ → List ℕ → Datagram → Option Shelved → Outcome → Type 0
+abbrev pub IsAnswerDue : List ℕ → List ℕ → Datagram → Option Files → Outcome → Type 0
 IsAnswerDue topology map d files = Reads topology_file files topology (λ t. Reads (map_file t) files map (IsAnswered d t))
 
--- What status 0 of `answer` says of the files and the output: the files hold a topology and a map that is good for its instance, and the output got the text of that map's reply, in one put.
+-- What status 0 of `answer` says of the files and the output: the octets that were loaded say a topology and a map that is good for its instance, and the output got the text of that map's reply, in one put.
 abbrev pub IsAnsweredRun : List ℕ → List ℕ → Datagram → Outside → Outside → Type 0
 IsAnsweredRun topology map d before after =
-    (t : Plan) × (m : Mapped) × (pieces : List (List ℕ)) × IsPlan t × Says topology_file before.files topology t × Says (map_file t) before.files map m × AreReply t m d pieces
-    × BothTell before.out after.out (IsPrinted pieces)
+    (t : Plan) × (m : Mapped) × (pieces : List (List ℕ)) × IsPlan t × Says topology_file (files_between before.files.past after.files.past) topology t × Says (map_file t) (files_between before.files.past after.files.past) map m × AreReply t m d pieces
+    × BothTell before.out.past after.out.past (IsPrinted pieces)

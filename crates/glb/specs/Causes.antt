@@ -1,14 +1,13 @@
 -- What came of the feed and the lanes where `serve` answers a fault of theirs.
 use Rattle.std.specs.Prelude.{◌≡◌, ◌⊎◌, ℕ, zero, suc, ◌≤◌, List, ◌∷◌, length, Option, None, Some}
 use Rattle.std.specs.List.{concat}
-use Rattle.outside.specs.Faults.{BothTell, Rose, raised}
+use Rattle.outside.specs.Faults.{BothTell, DeviceState, Rose, raised}
 use Rattle.outside.specs.Source.{Fed}
 use Rattle.demand_feed.specs.Runs.{HasRead, NoStop}
 use Rattle.mapper.specs.Scenes.{IsPrinted}
 use Rattle.addr_text.specs.declared.address.Listen.{Listen}
 use Rattle.drive.specs.Done.{LaneTold, ServerTold, StreamLaneTold}
-use Rattle.drive.specs.Driven.{Lent}
-use Rattle.drive.specs.Feeds.{FeedTold}
+use Rattle.drive.specs.Driven.{LentTold}
 use Rattle.glb.specs.Words.{Service}
 use Rattle.glb.specs.declared.status.Status.{Status}
 use Rattle.glb.specs.declared.status.Status.TheVariants.{PortFault, Spent, CellFault}
@@ -25,7 +24,7 @@ OfStream None P before after = ⊥
 OfStream (Some at) P before after = P before after
 
 -- one of the lanes that are asked for is so, before and after: one of the first lanes for datagrams, or that for conversations
-abbrev pub AnyServer : Service → (LaneTold → LaneTold → Type 0) → (StreamLaneTold → StreamLaneTold → Type 0) → Lent → Lent → Type 0
+abbrev pub AnyServer : Service → (LaneTold → LaneTold → Type 0) → (StreamLaneTold → StreamLaneTold → Type 0) → LentTold → LentTold → Type 0
 AnyServer ask P Q before after = AnyLane ask.workers P before.lanes after.lanes ⊎ OfStream ask.tcp Q before.stream after.stream
 
 -- the count of its port, or of its streams, rose
@@ -56,34 +55,34 @@ HasShown versions before after = versions ≤ after.greatest
 abbrev pub HasCellFault : ℕ → {T : Type 0} → ServerTold T → ServerTold T → Type 0
 HasCellFault versions before after = HasDoorFault before after ⊎ HasShown versions before after
 
--- a feed gave exactly so many pieces, in which no line `stop` ended
+-- a feed gave exactly so many pieces, in which no line `stop` ended, and may have been opened
 abbrev pub HasGiven : ℕ → Option Fed → Option Fed → Type 0
-HasGiven turns before after = (pieces : List (List ℕ)) × BothTell before after (HasRead pieces) × NoStop (concat pieces) × (length pieces ≡ turns)
+HasGiven turns before after = (pieces : List (List ℕ)) × BothTell before after (λ b c. HasRead pieces (record b { names = c.names }) c) × NoStop (concat pieces) × (length pieces ≡ turns)
 
 -- one of the first n further feeds is so, before and after
-abbrev pub AnyFeed : ℕ → (FeedTold → FeedTold → Type 0) → List FeedTold → List FeedTold → Type 0
+abbrev pub AnyFeed : ℕ → (DeviceState Fed → DeviceState Fed → Type 0) → List (DeviceState Fed) → List (DeviceState Fed) → Type 0
 AnyFeed zero P before after = ⊥
 AnyFeed (suc n) P (b ∷ before) (c ∷ after) = P b c ⊎ AnyFeed n P before after
 AnyFeed (suc n) P _ _ = ⊥
 
 -- its count rose
-abbrev pub HasFeedFault : FeedTold → FeedTold → Type 0
+abbrev pub HasFeedFault : DeviceState Fed → DeviceState Fed → Type 0
 HasFeedFault before after = Rose before.faults after.faults
 
 -- it gave so many pieces
-abbrev pub HasFeedGiven : ℕ → FeedTold → FeedTold → Type 0
-HasFeedGiven turns before after = HasGiven turns before.fed after.fed
+abbrev pub HasFeedGiven : ℕ → DeviceState Fed → DeviceState Fed → Type 0
+HasFeedGiven turns before after = HasGiven turns before.past after.past
 
 -- a feed gave as many pieces as there are turns, or one of the lanes took as many answers
-abbrev pub AreSpent : ℕ → Service → Lent → Lent → Type 0
+abbrev pub AreSpent : ℕ → Service → LentTold → LentTold → Type 0
 AreSpent turns ask before after = HasFeedGiven turns before.feed after.feed ⊎ AnyFeed (length ask.more) (HasFeedGiven turns) before.more after.more ⊎ AnyServer ask (HasTaken turns) (HasHeard turns) before after
 
 -- the maps got some texts, and the door of one of the lanes showed a serial beyond as many versions
-abbrev pub IsPastMaps : Service → Lent → Lent → Type 0
-IsPastMaps ask before after = (texts : List (List ℕ)) × BothTell before.maps after.maps (IsPrinted texts) × AnyServer ask (HasShown (length texts)) (HasShown (length texts)) before after
+abbrev pub IsPastMaps : Service → LentTold → LentTold → Type 0
+IsPastMaps ask before after = (texts : List (List ℕ)) × BothTell before.maps.past after.maps.past (IsPrinted texts) × AnyServer ask (HasShown (length texts)) (HasShown (length texts)) before after
 
 -- why a fault of the lanes was answered, or that turns were spent
-pub record HasLaneCauses (turns : ℕ) (ask : Service) (before after : Lent) (result : Status) : Type 0 where
+pub record HasLaneCauses (turns : ℕ) (ask : Service) (before after : LentTold) (result : Status) : Type 0 where
   pub port : result ≡ PortFault → AnyServer ask HasPortFault HasPortFault before after
   pub spent : result ≡ Spent → AreSpent turns ask before after
   pub cell : result ≡ CellFault → AnyServer ask HasDoorFault HasDoorFault before after ⊎ IsPastMaps ask before after

@@ -1,6 +1,7 @@
 -- What the files of a command come to.
-use Rattle.std.specs.Prelude.{◌≡◌, ◌⊎◌, ℕ, List, [], ◌∷◌, length, nat_lt, if◌then◌else◌, Option, None, Some, IfSome, option_map, Result, Ok, Err}
-use Rattle.outside.specs.Shelf.{Load, Shelved}
+use Rattle.std.specs.Prelude.{◌≡◌, ◌⊎◌, ℕ, List, [], ◌∷◌, length, nat_lt, if◌then◌else◌, Option, None, Some, option_map, Result, Ok, Err}
+use Rattle.outside.specs.Shelf.{Load}
+use Rattle.glb.specs.Loads.{DueLoad, Files, HaveGiven}
 use Rattle.topology_text.specs.Plan.{Plan}
 use Rattle.topology_text.specs.Faults.{reading}
 use Rattle.map_text.specs.Reading.{Mapped, map_of}
@@ -53,36 +54,37 @@ said kind bytes = if nat_lt kind.limit (length bytes) then Err kind.too_long els
 abbrev pub refused : List ℕ → Outcome
 refused text = record { status = Refused; pieces = text ∷ [] }
 
--- The file of that name holds these octets, where the shelf tells what it holds. Of one that doesn't tell, no more is known than that there are some.
-abbrev pub MayHold : Option Shelved → List ℕ → List ℕ → Type 0
-MayHold files name bytes = IfSome files (λ shelf. shelf.holds name ≡ Some bytes)
+-- the octets that were loaded say this
+abbrev pub Says : {T : Type 0} → Kind T → Option Files → List ℕ → T → Type 0
+Says kind files name t = (bytes : List ℕ) × HaveGiven files name kind.limit bytes × (said kind bytes ≡ Ok t)
 
--- the file is there and says this
-abbrev pub Says : {T : Type 0} → Kind T → Option Shelved → List ℕ → T → Type 0
-Says kind files name t = (bytes : List ℕ) × MayHold files name bytes × (said kind bytes ≡ Ok t)
+-- the octets that were loaded are refused
+abbrev pub IsRefused : {T : Type 0} → Kind T → Option Files → List ℕ → Outcome → Type 0
+IsRefused kind files name due = (bytes : List ℕ) × (text : List ℕ) × HaveGiven files name kind.limit bytes × (said kind bytes ≡ Err text) × (due ≡ refused text)
 
--- the file is there and is refused
-abbrev pub IsRefused : {T : Type 0} → Kind T → Option Shelved → List ℕ → Outcome → Type 0
-IsRefused kind files name due = (bytes : List ℕ) × (text : List ℕ) × MayHold files name bytes × (said kind bytes ≡ Err text) × (due ≡ refused text)
-
--- the file is refused, or what it says leads on to the outcome
-abbrev pub Reads : {T : Type 0} → Kind T → Option Shelved → List ℕ → (T → Outcome → Type 0) → Outcome → Type 0
+-- the octets that were loaded are refused, or what they say leads on to the outcome
+abbrev pub Reads : {T : Type 0} → Kind T → Option Files → List ℕ → (T → Outcome → Type 0) → Outcome → Type 0
 Reads {T = T} kind files name Next due = IsRefused kind files name due ⊎ ((t : T) × Says kind files name t × Next t due)
 
--- the loads that follow on a file, where it is there and says something
-abbrev pub loads_behind : {T : Type 0} → Option (Result T (List ℕ)) → (T → List Load) → List Load
+-- the file is there, and what it holds says this
+abbrev pub Holds : {T : Type 0} → Kind T → (List ℕ → Option (List ℕ)) → List ℕ → T → Type 0
+Holds kind held name t = (bytes : List ℕ) × (held name ≡ Some bytes) × (said kind bytes ≡ Ok t)
+
+-- the load of a file
+abbrev pub load_of : {T : Type 0} → Kind T → List ℕ → DueLoad
+load_of kind name = record { name = name; limit = kind.limit }
+
+-- the loads that follow on octets, where some came and they say something
+abbrev pub loads_behind : {T : Type 0} → Option (Result T (List ℕ)) → (T → List DueLoad) → List DueLoad
 loads_behind None next = []
 loads_behind (Some (Ok t)) next = next t
 loads_behind (Some (Err text)) next = []
 
--- the load of a file
-abbrev pub load_of : {T : Type 0} → Kind T → List ℕ → Load
-load_of kind name = record { name = name; limit = kind.limit }
+-- Which loads are due follows from what came of those that were made: that of one file alone,
+abbrev pub only : {T : Type 0} → Kind T → List ℕ → List Load → List DueLoad
+only kind name made = load_of kind name ∷ []
 
--- the load of one file alone
-abbrev pub only : {T : Type 0} → Kind T → List ℕ → (List ℕ → Option (List ℕ)) → List Load
-only kind name files = load_of kind name ∷ []
-
--- the load of a file, and those that follow on what it says
-abbrev pub loads_from : {T : Type 0} → Kind T → List ℕ → (T → (List ℕ → Option (List ℕ)) → List Load) → (List ℕ → Option (List ℕ)) → List Load
-loads_from kind name next files = load_of kind name ∷ loads_behind (option_map (said kind) (files name)) (λ t. next t files)
+-- or that of a file, and those that follow on what it says.
+abbrev pub loads_from : {T : Type 0} → Kind T → List ℕ → (T → List Load → List DueLoad) → List Load → List DueLoad
+loads_from kind name next [] = load_of kind name ∷ []
+loads_from kind name next (first ∷ made) = load_of kind name ∷ loads_behind (option_map (said kind) first.octets) (λ t. next t made)

@@ -16,11 +16,11 @@ IsLargeDue n due = (s : Summary) × IsWorldRun n s × (due ≡ record { status =
 
 -- a run of `large`: it ends with status 0, where the output failed, or where memory was wanting, and nothing but the output is touched
 pub record IsLargeRun (n : ℕ) (before after : Surroundings) (result : Status) : Type 0 where
-  pub run : RunsBy (IsLargeDue n) before.stage.lent.out after.stage.lent.out result
+  pub run : RunsBy (IsLargeDue n) before.lent.out.past after.lent.out.past result
   pub ends : (result ≡ status.Ok) ⊎ (result ≡ status.SinkFault) ⊎ (result ≡ status.NoMemory)
-  pub files : (after.files ≡ before.files) × (after.files_faults ≡ before.files_faults)
-  pub rest : IsOutAlone before.stage after.stage
+  pub files : after.files ≡ before.files
+  pub rest : IsOutAlone before.lent after.lent
 
 -- what status 0 of `large` says: the output got the summary of a run, line by line
 abbrev pub IsSummedRun : ℕ → Surroundings → Surroundings → Type 0
-IsSummedRun n before after = (s : Summary) × IsWorldRun n s × BothTell before.stage.lent.out after.stage.lent.out (IsPrinted (lines_of s))
+IsSummedRun n before after = (s : Summary) × IsWorldRun n s × BothTell before.lent.out.past after.lent.out.past (IsPrinted (lines_of s))

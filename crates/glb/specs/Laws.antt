@@ -36,8 +36,8 @@ RepairsAgree = (t : Plan) (m : Mapped) (changes : List Change) (a b : List (List
 pub record CameBy (turns : ℕ) (ask : Service) (before after : Surroundings) (w : IsWellServed turns ask before after) (ts : List Task) (c : Course) : Type 0 where
   pub all : AllCome ts (start w.first) c
   pub history : w.first ∷ w.rest ≡ w.first ∷ c.versions
-  pub out : BothTell before.stage.lent.out after.stage.lent.out (IsPrinted c.out)
-  pub maps : BothTell before.stage.lent.maps after.stage.lent.maps (IsPrinted (map map_text (w.first ∷ c.versions)))
+  pub out : BothTell before.lent.out.past after.lent.out.past (IsPrinted c.out)
+  pub maps : BothTell before.lent.maps.past after.lent.maps.past (IsPrinted (map map_text (w.first ∷ c.versions)))
 
 -- a feed gave these octets, however they were cut into pieces
 abbrev pub HasGivenOctets : Fed → Fed → List ℕ → Type 0
@@ -50,13 +50,13 @@ AreOctetsOf _ _ octets = ⊥
 
 -- Each run of `serve` with status 0 over one feed came to a course by the tasks of the octets that its feed tells.
 abbrev pub ServesCome : Type 0
-ServesCome = (turns : ℕ) (ask : Service) (before after : Surroundings) (w : IsWellServed turns ask before after) (octets : List ℕ) → ask.more ≡ [] → AreOctetsOf before.stage.lent.feed.fed after.stage.lent.feed.fed octets
+ServesCome = (turns : ℕ) (ask : Service) (before after : Surroundings) (w : IsWellServed turns ask before after) (octets : List ℕ) → ask.more ≡ [] → AreOctetsOf before.lent.feed.past after.lent.feed.past octets
     → (c : Course) × CameBy turns ask before after w (tasks w.topology (lines_of true octets)) c
 
 -- Two such runs over one topology whose feeds tell the same octets, of which neither lacked memory for a commit, came from the same first version to the same course: the same versions, the same texts on the maps, and the same lines on the output.
 abbrev pub ServesAgree : Type 0
 ServesAgree = (turns runs : ℕ) (ask other : Service) (before after then later : Surroundings) (x : IsWellServed turns ask before after) (y : IsWellServed runs other then later) (octets : List ℕ)
-    → ask.more ≡ [] → other.more ≡ [] → x.topology ≡ y.topology → AreOctetsOf before.stage.lent.feed.fed after.stage.lent.feed.fed octets → AreOctetsOf then.stage.lent.feed.fed later.stage.lent.feed.fed octets
+    → ask.more ≡ [] → other.more ≡ [] → x.topology ≡ y.topology → AreOctetsOf before.lent.feed.past after.lent.feed.past octets → AreOctetsOf then.lent.feed.past later.lent.feed.past octets
     → (c : Course) × (d : Course) × CameBy turns ask before after x (tasks x.topology (lines_of true octets)) c × CameBy runs other then later y (tasks y.topology (lines_of true octets)) d
     × ((LackedMemory c → ⊥) → (LackedMemory d → ⊥) → (x.first ≡ y.first) × (c ≡ d))
 

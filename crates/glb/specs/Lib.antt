@@ -2,6 +2,7 @@ pub mod Datagram
 pub mod Words
 pub mod Commands
 pub mod Texts
+pub mod Loads
 pub mod Outcome
 pub mod Told
 pub mod Feeds

@@ -1,7 +1,7 @@
 -- How a run comes out, and what it leaves outside.
 use Rattle.std.specs.Prelude.{◌≡◌, ◌≢◌, ℕ, ◌<◌, ◌≤◌, ◌⊎◌, List, [], ◌++◌, length, take, slice_index_or, Option}
-use Rattle.outside.specs.Faults.{BothTell, Rose}
-use Rattle.outside.specs.Shelf.{Load, Shelved}
+use Rattle.outside.specs.Faults.{BothTell, DeviceState, Rose}
+use Rattle.outside.specs.Shelf.{Shelved}
 use Rattle.outside.specs.Sink.{Written}
 use Rattle.mapper.specs.Scenes.{IsCutBehind, IsPrinted}
 use Rattle.glb.specs.declared.status.Status.{Status}
@@ -42,15 +42,10 @@ abbrev pub HasText : Status → Type 0
 HasText Usage = Unit {0}
 HasText status = IsSaidStatus status
 
--- what the outside tells at one moment
+-- what the files and the output tell at one moment, which are all that most commands ask
 pub record Outside : Type 0 where
-  pub files : Option Shelved
-  pub out : Option Written
-
--- the counts of faults at one moment
-pub record Faults : Type 0 where
-  pub files : ℕ
-  pub out : ℕ
+  pub files : DeviceState Shelved
+  pub out : DeviceState Written
 
 -- the pieces before that number were put, and then the put of the next failed, of which a beginning was written
 abbrev pub IsPrintedInPart : List (List ℕ) → Written → Written → Type 0
@@ -83,25 +78,15 @@ Speaks Due before after result = IsWhole Due before after result ⊎ IsPutInPart
 abbrev pub RunsBy : (Outcome → Type 0) → Option Written → Option Written → Status → Type 0
 RunsBy Due before after result = IsWhole Due before after result ⊎ IsPutInPart Due before after result ⊎ IsSilent before after result
 
--- the loads are the first of those that are due over the files, in order and once each, and the files stay
-pub record AreLoadsOf (due : (List ℕ → Option (List ℕ)) → List Load) (before after : Shelved) : Type 0 where
-  pub files : after.holds ≡ before.holds
-  pub loads : (k : ℕ) × (after.loads ≡ before.loads ++ take k (due before.holds))
-
--- all loads that are due over the files were made, in order, and the files stay
-pub record AreLoaded (due : (List ℕ → Option (List ℕ)) → List Load) (before after : Shelved) : Type 0 where
-  pub files : after.holds ≡ before.holds
-  pub loads : after.loads ≡ before.loads ++ due before.holds
-
 -- No count falls, and a fault of the outside is answered only where its count rose.
-pub record HasCauses (before after : Faults) (status : Status) : Type 0 where
-  pub files_later : before.files ≤ after.files
-  pub out_later : before.out ≤ after.out
-  pub source : status ≡ SourceFault → Rose before.files after.files
-  pub sink : status ≡ SinkFault → Rose before.out after.out
+pub record HasCauses (before after : Outside) (status : Status) : Type 0 where
+  pub files_later : before.files.faults ≤ after.files.faults
+  pub out_later : before.out.faults ≤ after.out.faults
+  pub source : status ≡ SourceFault → Rose before.files.faults after.files.faults
+  pub sink : status ≡ SinkFault → Rose before.out.faults after.out.faults
 
 -- its causes, and a count stands where its fault is not answered
-pub record HasExactCauses (before after : Faults) (status : Status) : Type 0 where
+pub record HasExactCauses (before after : Outside) (status : Status) : Type 0 where
   pub causes : HasCauses before after status
-  pub files_stay : status ≢ SourceFault → after.files ≡ before.files
-  pub out_stays : status ≢ SinkFault → after.out ≡ before.out
+  pub files_stay : status ≢ SourceFault → after.files.faults ≡ before.files.faults
+  pub out_stays : status ≢ SinkFault → after.out.faults ≡ before.out.faults

@@ -1,11 +1,12 @@
 -- What a run does whose words ask for one text, or are not taken.
 use Rattle.std.specs.Prelude.{◌≡◌, ◌⊎◌, ℕ, List, [], ◌∷◌, Option, None, Some}
 use Rattle.outside.specs.Faults.{BothTell}
-use Rattle.outside.specs.Shelf.{Load, Shelved}
+use Rattle.outside.specs.Shelf.{Load}
 use Rattle.outside.specs.Sink.{Written}
 use Rattle.glb.specs.declared.status.Status.{Status}
 use Rattle.glb.specs.declared.status.Status.TheVariants.{Usage, NoMemory}
 use Rattle.glb.specs.Words.{Ask, check, map_from, places, answer, repair}
+use Rattle.glb.specs.Loads.{DueLoad, Files, files_between}
 use Rattle.glb.specs.Outcome.{Outcome, Outside, RunsBy, Speaks}
 use Rattle.glb.specs.Check.{HoldsGoodMap, IsCheckDue, IsCheckedRun, loads_of_check}
 use Rattle.glb.specs.Map.{HoldsTopology, IsMapDue, IsMappedRun, loads_of_map}
@@ -19,7 +20,7 @@ abbrev pub IsUsage : Outcome → Type 0
 IsUsage due = due ≡ record { status = Usage; pieces = text.usage ∷ [] }
 
 -- what is due to a command over the files
-abbrev pub IsDue : Ask → Option Shelved → Outcome → Type 0
+abbrev pub IsDue : Ask → Option Files → Outcome → Type 0
 IsDue (check topology map) files = IsCheckDue topology map files
 IsDue (map_from topology) files = IsMapDue topology files
 IsDue (places topology) files = IsPlacesDue topology files
@@ -33,11 +34,11 @@ pub record AreWordsUnread (before after : Option Written) (result : Status) : Ty
 
 -- what a run does
 abbrev pub IsSayingRun : Option Ask → Outside → Outside → Status → Type 0
-IsSayingRun None before after result = Speaks IsUsage before.out after.out result ⊎ AreWordsUnread before.out after.out result
-IsSayingRun (Some ask) before after result = RunsBy (IsDue ask before.files) before.out after.out result
+IsSayingRun None before after result = Speaks IsUsage before.out.past after.out.past result ⊎ AreWordsUnread before.out.past after.out.past result
+IsSayingRun (Some ask) before after result = RunsBy (IsDue ask (files_between before.files.past after.files.past)) before.out.past after.out.past result
 
 -- the loads that are due to a command over the files: in the order of its words with their limits, each where all before it say something
-abbrev pub loads_of_ask : Ask → (List ℕ → Option (List ℕ)) → List Load
+abbrev pub loads_of_ask : Ask → List Load → List DueLoad
 loads_of_ask (check topology map) = loads_of_check topology map
 loads_of_ask (map_from topology) = loads_of_map topology
 loads_of_ask (places topology) = loads_of_places topology
@@ -45,18 +46,18 @@ loads_of_ask (answer topology map datagram) = loads_of_check topology map
 loads_of_ask (repair topology map changes) = loads_of_repair topology map changes
 
 -- the loads that are due to a run
-abbrev pub loads_of : Option Ask → (List ℕ → Option (List ℕ)) → List Load
-loads_of None files = []
-loads_of (Some ask) files = loads_of_ask ask files
+abbrev pub loads_of : Option Ask → List Load → List DueLoad
+loads_of None made = []
+loads_of (Some ask) made = loads_of_ask ask made
 
--- the files are such that all is well
-abbrev pub IsSound : Option Ask → Option Shelved → Type 0
-IsSound None files = ⊥
-IsSound (Some (check topology map)) files = HoldsGoodMap topology map files
-IsSound (Some (map_from topology)) files = HoldsTopology topology files
-IsSound (Some (places topology)) files = HoldsTopology topology files
-IsSound (Some (answer topology map datagram)) files = HoldsGoodMap topology map files
-IsSound (Some (repair topology map changes)) files = HoldsChanges topology map changes files
+-- what the files hold is such that all is well
+abbrev pub IsSound : Option Ask → (List ℕ → Option (List ℕ)) → Type 0
+IsSound None held = ⊥
+IsSound (Some (check topology map)) held = HoldsGoodMap topology map held
+IsSound (Some (map_from topology)) held = HoldsTopology topology held
+IsSound (Some (places topology)) held = HoldsTopology topology held
+IsSound (Some (answer topology map datagram)) held = HoldsGoodMap topology map held
+IsSound (Some (repair topology map changes)) held = HoldsChanges topology map changes held
 
 -- what status 0 says of the files and the output
 abbrev pub IsGoodRun : Option Ask → Outside → Outside → Type 0

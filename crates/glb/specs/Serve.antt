@@ -19,19 +19,20 @@ use Rattle.mapper.specs.Scenes.{IsCutBehind, IsPrinted}
 use Rattle.mapper.specs.Words.{map_text}
 use Rattle.mapper.specs.Mappers.{IsFirst, IsFromScratch}
 use Rattle.drive.specs.Done.{LaneTold, StreamLaneTold}
-use Rattle.drive.specs.Driven.{IsDriven}
+use Rattle.drive.specs.Driven.{IsDriven, LentTold}
 use Rattle.drive.specs.Feeds.{AllStand, NoneFell}
-use Rattle.glb.specs.Feeds.{AreNamed, Named, with_feeds}
+use Rattle.glb.specs.Feeds.{AreNamed, with_feeds}
 use Rattle.glb.specs.declared.status.Status.{Status}
 use Rattle.glb.specs.declared.status.Status.TheVariants as status
 use Rattle.glb.specs.Words.{Service, lanes_of, streams_of}
 use Rattle.glb.specs.Causes.{AnyFeed, AnyServer, HasFeedFault, HasCellFault, HasEightPortFaults, HasHeard, HasTaken}
 use Rattle.glb.specs.Outcome.{RunsBy}
-use Rattle.glb.specs.Told.{IsOutAlone, Stage, Surroundings}
+use Rattle.glb.specs.Told.{IsOutAlone, Surroundings}
+use Rattle.glb.specs.Loads.{DueLoad, files_between}
 use Rattle.glb.specs.Files.{IsRefused, Says, only, topology_file}
 
 -- the loads of `serve`: the topology
-abbrev pub loads_of_serve : Service → (List ℕ → Option (List ℕ)) → List Load
+abbrev pub loads_of_serve : Service → List Load → List DueLoad
 loads_of_serve ask = only topology_file ask.topology
 
 -- a lane ended by a fault of its port
@@ -130,103 +131,93 @@ abbrev pub then_failed : ℕ → List Opening
 then_failed n = all_ready n ++ opening.Failed ∷ []
 
 -- The map cell was not opened: a place in it was refused, which the door counted once, or memory was wanting, and it counted nothing.
-pub record IsUnopened (ask : Service) (before after : Stage) (result : Status) : Type 0 where
-  pub why : (result ≡ status.NoMemory) ⊎ ((result ≡ status.CellFault) × FirstDoorRose before.lent.lanes after.lent.lanes)
-  pub stays : result ≢ status.CellFault → FirstDoorStands before.lent.lanes after.lent.lanes
-  pub asked : (k : ℕ) × (k ≤ lanes_of ask) × AskedFirst k before.lent.lanes after.lent.lanes
-  pub lent : after.lent ≡ record before.lent { lanes = after.lent.lanes }
-  pub rest : after ≡ record before { lent = after.lent }
+pub record IsUnopened (ask : Service) (before after : LentTold) (result : Status) : Type 0 where
+  pub why : (result ≡ status.NoMemory) ⊎ ((result ≡ status.CellFault) × FirstDoorRose before.lanes after.lanes)
+  pub stays : result ≢ status.CellFault → FirstDoorStands before.lanes after.lanes
+  pub asked : (k : ℕ) × (k ≤ lanes_of ask) × AskedFirst k before.lanes after.lanes
+  pub rest : after ≡ record before { lanes = after.lanes }
 
 -- The map cell was opened, with a place for each lane, and none was refused.
-pub record IsPlaced (ask : Service) (before after : Stage) : Type 0 where
-  pub asked : PlacedFirst (lanes_of ask) before.lent.lanes after.lent.lanes
-  pub lent : after.lent ≡ record before.lent { lanes = after.lent.lanes }
-  pub rest : after ≡ record before { lent = after.lent }
+pub record IsPlaced (ask : Service) (before after : LentTold) : Type 0 where
+  pub asked : PlacedFirst (lanes_of ask) before.lanes after.lanes
+  pub rest : after ≡ record before { lanes = after.lanes }
 
 -- A port did not open, and none behind it was opened, nor the streams; or all ports were opened, and the streams did not open.
-pub record IsPortUnopened (ask : Service) (before after : Stage) (result : Status) : Type 0 where
+pub record IsPortUnopened (ask : Service) (before after : LentTold) (result : Status) : Type 0 where
   pub why : result ≡ status.PortFault
-  pub opened : ((k : ℕ) × (k < ask.workers) × AreOpened ask.listen (then_failed k) before.lent.lanes after.lent.lanes × (after.lent.stream ≡ before.lent.stream))
-      ⊎ (AreOpened ask.listen (all_ready ask.workers) before.lent.lanes after.lent.lanes × IsStreamShut ask.tcp before.lent.stream after.lent.stream)
-  pub lent : after.lent ≡ record before.lent { lanes = after.lent.lanes; stream = after.lent.stream }
-  pub rest : after ≡ record before { lent = after.lent }
-
--- what the further feeds tell
-abbrev pub named_of : Stage → Named
-named_of s = record { feeds = s.lent.more; opens = s.opens }
+  pub opened : ((k : ℕ) × (k < ask.workers) × AreOpened ask.listen (then_failed k) before.lanes after.lanes × (after.stream ≡ before.stream))
+      ⊎ (AreOpened ask.listen (all_ready ask.workers) before.lanes after.lanes × IsStreamShut ask.tcp before.stream after.stream)
+  pub rest : after ≡ record before { lanes = after.lanes; stream = after.stream }
 
 -- All ports and the streams were opened, but one of the further feeds was not, and none behind it.
-pub record IsFeedUnopened (ask : Service) (before after : Stage) (result : Status) : Type 0 where
+pub record IsFeedUnopened (ask : Service) (before after : LentTold) (result : Status) : Type 0 where
   pub why : result ≡ status.SourceFault
-  pub opened : AreOpened ask.listen (all_ready ask.workers) before.lent.lanes after.lent.lanes
-  pub stream : IsStreamReady ask.tcp before.lent.stream after.lent.stream
-  pub named : (k : ℕ) × (k < length ask.more) × AreNamed ask.more (then_failed k) (named_of before) (named_of after)
-  pub lent : after.lent ≡ record before.lent { lanes = after.lent.lanes; stream = after.lent.stream; more = after.lent.more }
-  pub rest : after ≡ record before { lent = after.lent; opens = after.opens }
+  pub opened : AreOpened ask.listen (all_ready ask.workers) before.lanes after.lanes
+  pub stream : IsStreamReady ask.tcp before.stream after.stream
+  pub named : (k : ℕ) × (k < length ask.more) × AreNamed ask.more (then_failed k) before.more after.more
+  pub rest : after ≡ record before { lanes = after.lanes; stream = after.stream; more = after.more }
 
 -- The ports, the streams and the further feeds were opened, but the put of the first map's text failed.
-pub record IsUnput (ask : Service) (first : Version) (before after : Stage) (result : Status) : Type 0 where
+pub record IsUnput (ask : Service) (first : Version) (before after : LentTold) (result : Status) : Type 0 where
   pub why : result ≡ status.SinkFault
-  pub opened : AreOpened ask.listen (all_ready ask.workers) before.lent.lanes after.lent.lanes
-  pub stream : IsStreamReady ask.tcp before.lent.stream after.lent.stream
-  pub named : AreNamed ask.more (all_ready (length ask.more)) (named_of before) (named_of after)
-  pub cut : BothTell before.lent.maps after.lent.maps (IsCutBehind [] (map_text first))
-  pub rose : Rose before.maps_faults after.maps_faults
-  pub lent : after.lent ≡ record before.lent { lanes = after.lent.lanes; stream = after.lent.stream; more = after.lent.more; maps = after.lent.maps }
-  pub rest : after ≡ record before { lent = after.lent; opens = after.opens; maps_faults = after.maps_faults }
+  pub opened : AreOpened ask.listen (all_ready ask.workers) before.lanes after.lanes
+  pub stream : IsStreamReady ask.tcp before.stream after.stream
+  pub named : AreNamed ask.more (all_ready (length ask.more)) before.more after.more
+  pub cut : BothTell before.maps.past after.maps.past (IsCutBehind [] (map_text first))
+  pub rose : Rose before.maps.faults after.maps.faults
+  pub rest : after ≡ record before { lanes = after.lanes; stream = after.stream; more = after.more; maps = after.maps }
 
 -- The ports, the streams and the further feeds were opened, and the first map's text was put.
-pub record IsStarted (ask : Service) (first : Version) (before after : Stage) : Type 0 where
-  pub opened : AreOpened ask.listen (all_ready ask.workers) before.lent.lanes after.lent.lanes
-  pub stream : IsStreamReady ask.tcp before.lent.stream after.lent.stream
-  pub named : AreNamed ask.more (all_ready (length ask.more)) (named_of before) (named_of after)
-  pub put : BothTell before.lent.maps after.lent.maps (IsPrinted (map_text first ∷ []))
-  pub lent : after.lent ≡ record before.lent { lanes = after.lent.lanes; stream = after.lent.stream; more = after.lent.more; maps = after.lent.maps }
-  pub rest : after ≡ record before { lent = after.lent; opens = after.opens }
+pub record IsStarted (ask : Service) (first : Version) (before after : LentTold) : Type 0 where
+  pub opened : AreOpened ask.listen (all_ready ask.workers) before.lanes after.lanes
+  pub stream : IsStreamReady ask.tcp before.stream after.stream
+  pub named : AreNamed ask.more (all_ready (length ask.more)) before.more after.more
+  pub put : BothTell before.maps.past after.maps.past (IsPrinted (map_text first ∷ []))
+  pub stays : after.maps.faults ≡ before.maps.faults
+  pub rest : after ≡ record before { lanes = after.lanes; stream = after.stream; more = after.more; maps = after.maps }
 
--- The feeds were worked and the first lanes were served, and that for conversations where it is asked for, over one history of published maps that goes on from the first one; further feeds that were not asked for are untouched, and so are their openings. The status is that of their ends, and each fault came with what it is a fault of: the count of a feed, of an output or of a door, eight more on that of a port or of the streams, as many turns as there may be, or a serial that was not published. The feeds' counts stood where no source's fault is answered, but for several feeds where an output's is, and those of both outputs where no output's is answered.
-pub record IsServed (turns : ℕ) (ask : Service) (first : Version) (before after : Stage) (result : Status) : Type 0 where
+-- The feeds were worked and the first lanes were served, and that for conversations where it is asked for, over one history of published maps that goes on from the first one; further feeds that were not asked for are untouched. The status is that of their ends, and each fault came with what it is a fault of: the count of a feed, of an output or of a door, eight more on that of a port or of the streams, as many turns as there may be, or a serial that was not published. The feeds' counts stood where no source's fault is answered, but for several feeds where an output's is, and those of both outputs where no output's is answered. Of one worker's replies, at whatever status, `driven` speaks: each lane has its `IsServedLog` of drive there.
+pub record IsServed (turns : ℕ) (ask : Service) (first : Version) (before after : LentTold) (result : Status) : Type 0 where
   pub end : FeedEnd
   pub ends : List Ended
   pub stream_end : Option Ended
   pub as_many : length ends ≡ ask.workers
   pub as_asked : length (option_to_list stream_end) ≡ streams_of ask.tcp
-  pub driven : IsDriven turns first end ends stream_end (with_feeds (length ask.more) before.lent) (with_feeds (length ask.more) after.lent)
-  pub behind : drop (length ask.more) after.lent.more ≡ drop (length ask.more) before.lent.more
-  pub opens : drop (length ask.more) after.opens ≡ drop (length ask.more) before.opens
+  pub driven : IsDriven turns first end ends stream_end (with_feeds (length ask.more) before) (with_feeds (length ask.more) after)
+  pub behind : drop (length ask.more) after.more ≡ drop (length ask.more) before.more
   pub result_is : result ≡ status_of end (list_any is_port_fault (all_ends ends stream_end)) (list_any is_spent (all_ends ends stream_end)) (list_any is_cell_fault (all_ends ends stream_end))
-  pub source : end ≡ feed.SourceFault → Rose before.lent.feed.faults after.lent.feed.faults ⊎ AnyFeed (length ask.more) HasFeedFault before.lent.more after.lent.more
-  pub source_stays : end ≢ feed.SourceFault → (end ≡ feed.SinkFault → ask.more ≡ []) → (after.lent.feed.faults ≡ before.lent.feed.faults) × AllStand before.lent.more after.lent.more
-  pub sink : end ≡ feed.SinkFault → Rose before.out_faults after.out_faults ⊎ Rose before.maps_faults after.maps_faults
-  pub sink_stays : end ≢ feed.SinkFault → (after.out_faults ≡ before.out_faults) × (after.maps_faults ≡ before.maps_faults)
-  pub port : result ≡ status.PortFault → AnyServer ask HasEightPortFaults HasEightPortFaults before.lent after.lent
-  pub spent : result ≡ status.Spent → (end ≡ feed.Spent) ⊎ AnyServer ask (HasTaken turns) (HasHeard turns) before.lent after.lent
-  pub cell : result ≡ status.CellFault → AnyServer ask (HasCellFault (length (first ∷ driven.rest))) (HasCellFault (length (first ∷ driven.rest))) before.lent after.lent
-  pub later : (before.lent.feed.faults ≤ after.lent.feed.faults) × (before.out_faults ≤ after.out_faults) × (before.maps_faults ≤ after.maps_faults) × NoneFell before.lent.more after.lent.more
+  pub source : end ≡ feed.SourceFault → Rose before.feed.faults after.feed.faults ⊎ AnyFeed (length ask.more) HasFeedFault before.more after.more
+  pub source_stays : end ≢ feed.SourceFault → (end ≡ feed.SinkFault → ask.more ≡ []) → (after.feed.faults ≡ before.feed.faults) × AllStand before.more after.more
+  pub sink : end ≡ feed.SinkFault → Rose before.out.faults after.out.faults ⊎ Rose before.maps.faults after.maps.faults
+  pub sink_stays : end ≢ feed.SinkFault → (after.out.faults ≡ before.out.faults) × (after.maps.faults ≡ before.maps.faults)
+  pub port : result ≡ status.PortFault → AnyServer ask HasEightPortFaults HasEightPortFaults before after
+  pub spent : result ≡ status.Spent → (end ≡ feed.Spent) ⊎ AnyServer ask (HasTaken turns) (HasHeard turns) before after
+  pub cell : result ≡ status.CellFault → AnyServer ask (HasCellFault (length (first ∷ driven.rest))) (HasCellFault (length (first ∷ driven.rest))) before after
+  pub later : (before.feed.faults ≤ after.feed.faults) × (before.out.faults ≤ after.out.faults) × (before.maps.faults ≤ after.maps.faults) × NoneFell before.more after.more
 
 -- what follows where the map cell was opened with a first version
-abbrev pub IsFirstSession : ℕ → Service → Version → Stage → Stage → Status → Type 0
+abbrev pub IsFirstSession : ℕ → Service → Version → LentTold → LentTold → Status → Type 0
 IsFirstSession turns ask first before after result = IsPortUnopened ask before after result
     ⊎ IsFeedUnopened ask before after result
     ⊎ IsUnput ask first before after result
     ⊎ ((result ≡ status.NoMemory) × IsStarted ask first before after)
-    ⊎ ((started : Stage) × IsStarted ask first before started × IsServed turns ask first started after result)
+    ⊎ ((started : LentTold) × IsStarted ask first before started × IsServed turns ask first started after result)
 
 -- the first version of a topology: serial 0, its own numbers, and a good map, mapped from scratch
 abbrev pub IsFirstOf : Plan → Version → Type 0
 IsFirstOf t first = IsFirst t (record { history = first ∷ []; newest = first }) × IsFromScratch t.market first.lines
 
 -- what follows where a topology was read
-abbrev pub IsSession : ℕ → Service → Plan → Stage → Stage → Status → Type 0
+abbrev pub IsSession : ℕ → Service → Plan → LentTold → LentTold → Status → Type 0
 IsSession turns ask topology before after result = IsUnopened ask before after result
-    ⊎ ((placed : Stage) × (first : Version) × IsPlaced ask before placed × IsFirstOf topology first × IsFirstSession turns ask first placed after result)
+    ⊎ ((placed : LentTold) × (first : Version) × IsPlaced ask before placed × IsFirstOf topology first × IsFirstSession turns ask first placed after result)
 
 -- The topology was refused, with its text on the output or a beginning of it; or it could not be loaded, or memory was wanting.
 pub record IsUnread (ask : Service) (before after : Surroundings) (result : Status) : Type 0 where
-  pub run : RunsBy (IsRefused topology_file before.files ask.topology) before.stage.lent.out after.stage.lent.out result
-  pub rest : IsOutAlone before.stage after.stage
+  pub run : RunsBy (IsRefused topology_file (files_between before.files.past after.files.past) ask.topology) before.lent.out.past after.lent.out.past result
+  pub rest : IsOutAlone before.lent after.lent
 
 -- what a run of `serve` does
 abbrev pub IsServeRun : ℕ → Service → Surroundings → Surroundings → Status → Type 0
 IsServeRun turns ask before after result = IsUnread ask before after result
-    ⊎ ((topology : Plan) × IsPlan topology × Says topology_file before.files ask.topology topology × IsSession turns ask topology before.stage after.stage result)
+    ⊎ ((topology : Plan) × IsPlan topology × Says topology_file (files_between before.files.past after.files.past) ask.topology topology × IsSession turns ask topology before.lent after.lent result)

@@ -1,21 +1,23 @@
--- What status 0 of `serve` says.
+-- What status 0 of `serve` says. Begin at the end, with `IsWellServed`; of one worker's replies, with `IsWellDone`.
 use Rattle.std.specs.Prelude.{◌≡◌, ◌⊎◌, ℕ, zero, suc, ◌+◌, ◌≤◌, All, Bool, List, [], ◌∷◌, ◌++◌, Option, None, Some, fold, length, map, take}
 use Rattle.std.specs.List.{flat_map, range_with_len}
 use Rattle.outside.specs.Faults.{BothTell, raised}
 use Rattle.topology_text.specs.Plan.{IsPlan, Plan}
+use Rattle.past_log.specs.Notes.{no_notes}
 use Rattle.published_map.specs.Version.{Version}
+use Rattle.map_cell.specs.Rows.{AreFirst}
 use Rattle.lane_model.specs.declared.ended.Ended.{Ended}
 use Rattle.lane_model.specs.declared.ended.Ended.TheVariants.{PortEnd, Stopped}
 use Rattle.lane_model.specs.Lanes.{IsLaneRun}
 use Rattle.lane_model.specs.Machine.{GoesOn}
 use Rattle.lane_model.specs.Replies.{replies}
 use Rattle.lane_model.specs.Calls.{IsEnd, IsGateRun}
-use Rattle.lane_model.specs.Turns.{IsFated, IsTold, Turn, entries_of, failures, port_turn, tries_of}
+use Rattle.lane_model.specs.Turns.{IsFated, IsTold, Turn, entries_of, failures, notes_turn, port_turn, tries_of}
 use Rattle.demand_feed.specs.declared.run.FeedEnd.TheVariants as feed
-use Rattle.mapper.specs.Scenes.{IsPrinted, scene}
+use Rattle.mapper.specs.Scenes.{IsPrinted}
 use Rattle.mapper.specs.Words.{map_text}
 use Rattle.drive.specs.Done.{LaneTold, StreamLaneTold, floor_behind}
-use Rattle.drive.specs.Driven.{Succeeds}
+use Rattle.drive.specs.Driven.{LentTold, Succeeds, scene_at}
 use Rattle.drive.specs.Feeds.{AreFed}
 use Rattle.glb.specs.Words.{Service}
 use Rattle.addr_text.specs.declared.address.Listen.{Listen}
@@ -24,12 +26,13 @@ use Rattle.tcp_lane.specs.Calls.{AreRuled, IsStreamEnd}
 use Rattle.tcp_lane.specs.Replies.{stream_replies}
 use Rattle.tcp_lane.specs.Stream.{IsStreamRun}
 use Rattle.tcp_lane.specs.Turns.{StreamTurn, TalkState, closing_if, lane_of, lead_of, no_talk, stream_turn}
-use Rattle.glb.specs.Told.{Stage, Surroundings}
+use Rattle.glb.specs.Told.{Surroundings}
+use Rattle.glb.specs.Loads.{files_between}
 use Rattle.glb.specs.Files.{Says, topology_file}
 use Rattle.glb.specs.declared.status.Status.TheVariants as status
 use Rattle.glb.specs.Serve.{IsFirstOf, IsPlaced, IsServed, IsStarted}
 
--- A lane that ended well: in each turn its gate was asked and its port after that, whose count of faults rose by at least as many as its calls failed, and stands where none did; each datagram with a reply was answered from a version of the history that is no older than what the lane had used or was told of; it was given the notes of the first versions, as many as the lane tells, in their order, each once; what its gate was shown last is no less than what was known by then; and it went on until its port's end or its gate's stop.
+-- A lane that ended well: in each turn its gate was asked and its port after that, whose count of faults rose by at least as many as its calls failed, and stands where none did; of each datagram with a reply one was tried, from a version of the history that is no older than what the lane had used or was told of, whether or not it went, since no look was refused (by `well` and `ending`, by which also fewer than eight calls failed); its worker was given the notes of the first versions, in their order, each once, in the turns of which the lane tells; what its gate was shown last is no less than what was known by then; and it went on until its port's end or its gate's stop.
 pub record IsWellDone (turns : ℕ) (history : List Version) (w : ℕ) (before after : LaneTold) : Type 0 where
   pub log : List Turn
   pub ended : Ended
@@ -37,8 +40,9 @@ pub record IsWellDone (turns : ℕ) (history : List Version) (w : ℕ) (before a
   pub run : IsLaneRun replies history w 0 0 (entries_of replies.way log) (tries_of log)
   pub told : IsTold 0 log
   pub fates : All (λ t. IsFated replies t.came) log
-  pub notes : flat_map (λ t. t.notes) log ≡ range_with_len 0 after.noted
-  pub noted : after.noted ≤ length history
+  pub numbers : AreFirst after.notes
+  pub notes : after.notes ≡ fold notes_turn no_notes log
+  pub noted : length after.notes.given ≤ length history
   pub last : floor_behind 0 log ≤ shown
   pub port : BothTell before.port after.port (λ b c. c ≡ fold port_turn b log)
   pub gate : BothTell before.gate after.gate (IsGateRun shown log ended)
@@ -53,7 +57,7 @@ AreWellDone turns history w zero before after = after ≡ before
 AreWellDone turns history w (suc n) (b ∷ before) (c ∷ after) = IsWellDone turns history w b c × AreWellDone turns history (w + 1) n before after
 AreWellDone turns history w (suc n) _ _ = ⊥
 
--- A lane for conversations that ended well: in each turn its gate was asked and then its streams, whose count of faults rose by at least as many as their calls failed, and stands where none did; whatever the streams told before, if no conversation was open, those that they tell of behind those are a stream run over the history, from versions no older than what the lane had used or was told of, in which no look is refused, so each whole message that was read is taken, and has its reply unless it is silent, but behind a write that failed; its turns follow the rules of conversations, by which each is closed; it was given the notes of the first versions, as many as the lane tells, in their order, each once; what its gate was shown last is no less than what was known by then; and it went on until its streams' end or its gate's stop.
+-- A lane for conversations that ended well: in each turn its gate was asked and then its streams, whose count of faults rose by at least as many as their calls failed, and stands where none did; whatever the streams told before, if no conversation was open, those that they tell of behind those are a stream run over the history, from versions no older than what the lane had used or was told of, in which no look is refused, so each whole message that was read is taken, and has its reply unless it is silent, but behind a write that failed; its turns follow the rules of conversations, by which each is closed; its worker was given the notes of the first versions, in their order, each once, in the turns of which the lane tells; what its gate was shown last is no less than what was known by then; and it went on until its streams' end or its gate's stop.
 pub record IsStreamWellDone (turns : ℕ) (history : List Version) (w : ℕ) (before after : StreamLaneTold) : Type 0 where
   pub log : List StreamTurn
   pub closes : Bool
@@ -64,8 +68,9 @@ pub record IsStreamWellDone (turns : ℕ) (history : List Version) (w : ℕ) (be
   pub rules : (talk : TalkState) × AreRuled no_talk log talk × (closes ≡ talk.is_open)
   pub told : IsTold 0 (lane_of log)
   pub fates : All (λ t. IsFated stream_replies t.came) (lane_of log)
-  pub notes : flat_map (λ t. t.notes) (lane_of log) ≡ range_with_len 0 after.noted
-  pub noted : after.noted ≤ length history
+  pub numbers : AreFirst after.notes
+  pub notes : after.notes ≡ fold notes_turn no_notes (map lead_of log)
+  pub noted : length after.notes.given ≤ length history
   pub last : floor_behind 0 (lane_of log) ≤ shown
   pub streams : BothTell before.port after.port (λ b c. c ≡ closing_if closes (fold stream_turn b log))
   pub gate : BothTell before.gate after.gate (IsGateRun shown (map lead_of log) ended)
@@ -83,20 +88,20 @@ IsStreamWell (Some at) turns history w before after = IsStreamWellDone turns his
 pub record IsWellServed (turns : ℕ) (ask : Service) (before after : Surroundings) : Type 0 where
   pub topology : Plan
   pub is_plan : IsPlan topology
-  pub says : Says topology_file before.files ask.topology topology
+  pub says : Says topology_file (files_between before.files.past after.files.past) ask.topology topology
   pub first : Version
   pub rest : List Version
   pub newest : Version
   pub is_first : IsFirstOf topology first
   pub goes_on : GoesOn Succeeds (first ∷ []) rest
-  pub texts : BothTell before.stage.lent.maps after.stage.lent.maps (IsPrinted (map map_text (first ∷ rest)))
-  pub placed : Stage
-  pub started : Stage
-  pub place : IsPlaced ask before.stage placed
+  pub texts : BothTell before.lent.maps.past after.lent.maps.past (IsPrinted (map map_text (first ∷ rest)))
+  pub placed : LentTold
+  pub started : LentTold
+  pub place : IsPlaced ask before.lent placed
   pub start : IsStarted ask first placed started
-  pub fed : AreFed topology turns feed.Ended started.lent.feed (take (length ask.more) started.lent.more) after.stage.lent.feed (take (length ask.more) after.stage.lent.more) (scene first (first ∷ []) started.lent.out started.lent.maps started.lent.pace) (scene newest (first ∷ rest) after.stage.lent.out after.stage.lent.maps after.stage.lent.pace)
-  pub lanes : AreWellDone turns (first ∷ rest) 0 ask.workers started.lent.lanes after.stage.lent.lanes
-  pub stream : IsStreamWell ask.tcp turns (first ∷ rest) ask.workers started.lent.stream after.stage.lent.stream
+  pub fed : AreFed topology turns feed.Ended started.feed (take (length ask.more) started.more) after.lent.feed (take (length ask.more) after.lent.more) (scene_at first (first ∷ []) started) (scene_at newest (first ∷ rest) after.lent)
+  pub lanes : AreWellDone turns (first ∷ rest) 0 ask.workers started.lanes after.lent.lanes
+  pub stream : IsStreamWell ask.tcp turns (first ∷ rest) ask.workers started.stream after.lent.stream
   -- what the run did behind its start, over this same history
-  pub served : IsServed turns ask first started after.stage status.Ok
+  pub served : IsServed turns ask first started after.lent status.Ok
   pub one : served.driven.rest ≡ rest

@@ -5,14 +5,15 @@ use Rattle.lane_model.specs.declared.ended.Ended.{Ended}
 use Rattle.demand_feed.specs.declared.run.FeedEnd.{FeedEnd}
 use Rattle.glb.specs.declared.status.Status.{Status}
 use Rattle.glb.specs.declared.status.Status.TheVariants as status
-use Rattle.glb.specs.Told.{Stage}
 use Rattle.addr_text.specs.declared.address.Listen.{Listen}
-use Rattle.outside.specs.Faults.{BothTell, Rose}
+use Rattle.outside.specs.Faults.{BothTell, DeviceState, Rose}
 use Rattle.outside.specs.Sink.{Written}
+use Rattle.outside.specs.Source.{Fed}
 use Rattle.outside.specs.declared.port.Opening.{Opening}
 use Rattle.outside.specs.declared.port.Opening.TheVariants as opening
 use Rattle.mapper.specs.Scenes.{IsCutBehind, IsPrinted}
 use Rattle.drive.specs.Done.{LaneTold, StreamLaneTold}
+use Rattle.drive.specs.Driven.{LentTold}
 use Rattle.glb.specs.Words.{Service}
 use Rattle.glb.specs.declared.starting.Start.{Start}
 use Rattle.glb.specs.declared.starting.Start.TheVariants as start
@@ -20,7 +21,7 @@ use Rattle.map_cell.specs.declared.door.OpenFault.{OpenFault}
 use Rattle.map_cell.specs.declared.door.OpenFault.TheVariants.{CellFault as Shut}
 use Rattle.drive.specs.Feeds.{AllStand, NoneFell}
 use Rattle.glb.specs.Causes.{AnyFeed, HasFeedFault}
-use Rattle.glb.specs.Feeds.{AreNamed, Named}
+use Rattle.glb.specs.Feeds.{AreNamed}
 use Rattle.glb.specs.Serve.{AreOpened, AskedFirst, FirstDoorRose, FirstDoorStands, IsStreamReady, IsStreamShut, all_ready, is_cell_fault, is_port_fault, is_spent, status_of, then_failed}
 
 -- the ports of the first n lanes were opened, or those up to one that failed
@@ -28,30 +29,29 @@ abbrev pub HasOpened : Listen → ℕ → Opening → List LaneTold → List Lan
 HasOpened listen n opening.Ready before after = AreOpened listen (all_ready n) before after
 HasOpened listen n opening.Failed before after = (k : ℕ) × (k < n) × AreOpened listen (then_failed k) before after
 
--- what is told of the maps and of the lanes
-pub record Staged : Type 0 where
-  pub maps : Option Written
-  pub maps_faults : ℕ
+-- what a start touches: the further feeds, the maps and the lanes
+pub record Begun : Type 0 where
+  pub more : List (DeviceState Fed)
+  pub maps : DeviceState Written
   pub lanes : List LaneTold
   pub stream : StreamLaneTold
-  pub named : Named
 
 -- The ports of the first lanes were opened, the streams where that is asked for, and the further feeds, and a text was put; or one of them failed to open; or the put failed.
-abbrev pub IsStart : Service → List ℕ → Start → Staged → Staged → Type 0
+abbrev pub IsStart : Service → List ℕ → Start → Begun → Begun → Type 0
 IsStart ask text start.Ready before after =
-    AreOpened ask.listen (all_ready ask.workers) before.lanes after.lanes × IsStreamReady ask.tcp before.stream after.stream × AreNamed ask.more (all_ready (length ask.more)) before.named after.named × BothTell before.maps after.maps (IsPrinted (text ∷ [])) × (after.maps_faults ≡ before.maps_faults)
+    AreOpened ask.listen (all_ready ask.workers) before.lanes after.lanes × IsStreamReady ask.tcp before.stream after.stream × AreNamed ask.more (all_ready (length ask.more)) before.more after.more × BothTell before.maps.past after.maps.past (IsPrinted (text ∷ [])) × (after.maps.faults ≡ before.maps.faults)
 IsStart ask text start.NoPort before after =
     (((k : ℕ) × (k < ask.workers) × AreOpened ask.listen (then_failed k) before.lanes after.lanes × (after.stream ≡ before.stream))
     ⊎ (AreOpened ask.listen (all_ready ask.workers) before.lanes after.lanes × IsStreamShut ask.tcp before.stream after.stream))
-    × (after.named ≡ before.named) × (after.maps ≡ before.maps) × (after.maps_faults ≡ before.maps_faults)
+    × (after.more ≡ before.more) × (after.maps ≡ before.maps)
 IsStart ask text start.NoFeed before after =
-    AreOpened ask.listen (all_ready ask.workers) before.lanes after.lanes × IsStreamReady ask.tcp before.stream after.stream × ((k : ℕ) × (k < length ask.more) × AreNamed ask.more (then_failed k) before.named after.named)
-    × (after.maps ≡ before.maps) × (after.maps_faults ≡ before.maps_faults)
+    AreOpened ask.listen (all_ready ask.workers) before.lanes after.lanes × IsStreamReady ask.tcp before.stream after.stream × ((k : ℕ) × (k < length ask.more) × AreNamed ask.more (then_failed k) before.more after.more)
+    × (after.maps ≡ before.maps)
 IsStart ask text start.NoSink before after =
-    AreOpened ask.listen (all_ready ask.workers) before.lanes after.lanes × IsStreamReady ask.tcp before.stream after.stream × AreNamed ask.more (all_ready (length ask.more)) before.named after.named × BothTell before.maps after.maps (IsCutBehind [] text) × Rose before.maps_faults after.maps_faults
+    AreOpened ask.listen (all_ready ask.workers) before.lanes after.lanes × IsStreamReady ask.tcp before.stream after.stream × AreNamed ask.more (all_ready (length ask.more)) before.more after.more × BothTell before.maps.past after.maps.past (IsCutBehind [] text) × Rose before.maps.faults after.maps.faults
 
 -- the further feeds were opened under these names, or those up to one that failed
-abbrev pub HasNamed : List (List ℕ) → Opening → Named → Named → Type 0
+abbrev pub HasNamed : List (List ℕ) → Opening → List (DeviceState Fed) → List (DeviceState Fed) → Type 0
 HasNamed names opening.Ready before after = AreNamed names (all_ready (length names)) before after
 HasNamed names opening.Failed before after = (k : ℕ) × (k < length names) × AreNamed names (then_failed k) before after
 
@@ -78,13 +78,13 @@ abbrev pub status_at : FeedEnd → List (Option Ended) → Option Ended → Stat
 status_at end places stream = status_of end (has_any is_port_fault places stream) (has_any is_spent places stream) (has_any is_cell_fault places stream)
 
 -- no count of a session fell, a fault of a feed or of an output came with its count, and these counts stand where their fault is not answered, those of several feeds where no output's fault is answered either
-pub record IsSessionLater (ask : Service) (before after : Stage) (result : Status) : Type 0 where
-  pub feed : before.lent.feed.faults ≤ after.lent.feed.faults
-  pub out : before.out_faults ≤ after.out_faults
-  pub maps : before.maps_faults ≤ after.maps_faults
-  pub more : NoneFell before.lent.more after.lent.more
-  pub source : result ≡ status.SourceFault → Rose before.lent.feed.faults after.lent.feed.faults ⊎ AnyFeed (length ask.more) HasFeedFault before.lent.more after.lent.more
-  pub sink : result ≡ status.SinkFault → Rose before.out_faults after.out_faults ⊎ Rose before.maps_faults after.maps_faults
-  pub feed_stays : result ≢ status.SourceFault → (result ≡ status.SinkFault → ask.more ≡ []) → (after.lent.feed.faults ≡ before.lent.feed.faults) × AllStand before.lent.more after.lent.more
-  pub out_stays : result ≢ status.SinkFault → after.out_faults ≡ before.out_faults
-  pub maps_stay : result ≢ status.SinkFault → after.maps_faults ≡ before.maps_faults
+pub record IsSessionLater (ask : Service) (before after : LentTold) (result : Status) : Type 0 where
+  pub feed : before.feed.faults ≤ after.feed.faults
+  pub out : before.out.faults ≤ after.out.faults
+  pub maps : before.maps.faults ≤ after.maps.faults
+  pub more : NoneFell before.more after.more
+  pub source : result ≡ status.SourceFault → Rose before.feed.faults after.feed.faults ⊎ AnyFeed (length ask.more) HasFeedFault before.more after.more
+  pub sink : result ≡ status.SinkFault → Rose before.out.faults after.out.faults ⊎ Rose before.maps.faults after.maps.faults
+  pub feed_stays : result ≢ status.SourceFault → (result ≡ status.SinkFault → ask.more ≡ []) → (after.feed.faults ≡ before.feed.faults) × AllStand before.more after.more
+  pub out_stays : result ≢ status.SinkFault → after.out.faults ≡ before.out.faults
+  pub maps_stay : result ≢ status.SinkFault → after.maps.faults ≡ before.maps.faults

@@ -3,6 +3,7 @@ ghost use Rattle.std.specs.Prelude.{◌≡◌, ◌≢◌, Err, IfOk};
 ghost use Rattle.map_model.specs.Allocation.{IsGood};
 ghost use Rattle.published_map.specs.Version.{IsVersion};
 ghost use Rattle.map_text.specs.Writing.{mapped};
+ghost use Rattle.glb.specs.Loads.{files_between};
 ghost use Rattle.glb.specs.Answer.{IsAnswerDue, IsAnswered, IsReplied, answer_of, version_of};
 ghost use Rattle.glb.specs.Check.{loads_of_check};
 ghost use Rattle.glb.specs.Ending.{EndsBy, IsEnd, outcome_of};
@@ -108,7 +109,7 @@ pub fn answer_files<F: Shelf>(
 ) -> Result<Report, Stop>
     ensures { IsEnd (loads_of_check topology.now map.now)
         (IsAnswerDue topology.now map.now (record { from = from; octets = octets.now })
-        (F.told files.old).past) (F.told files.old)
+        (files_between (F.told files.old).past (F.told files.new).past)) (F.told files.old)
         (F.told files.new) result }
 {
     let topology = load_topology(alloc, files, topology)?;

@@ -2,6 +2,7 @@
 ghost use Rattle.std.specs.Prelude.{◌≡◌, ◌≢◌, [], ◌∷◌, Err, IfOk};
 ghost use Rattle.stable_check.specs.Judgement.{Judges};
 ghost use Rattle.map_text.specs.Writing.{mapped};
+ghost use Rattle.glb.specs.Loads.{files_between};
 ghost use Rattle.glb.specs.Check.{IsCheckDue, IsJudged, loads_of_check, status_of_verdict};
 ghost use Rattle.glb.specs.Texts as text;
 ghost use Rattle.glb.specs.Ending.{EndsBy, IsEnd, IsNameable, outcome_of};
@@ -73,7 +74,8 @@ pub fn check_files<F: Shelf>(
     map: &str,
 ) -> Result<Report, Stop>
     ensures { IsEnd (loads_of_check topology.now map.now)
-        (IsCheckDue topology.now map.now (F.told files.old).past)
+        (IsCheckDue topology.now map.now
+        (files_between (F.told files.old).past (F.told files.new).past))
         (F.told files.old)
         (F.told files.new) result }
 {

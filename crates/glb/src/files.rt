@@ -2,7 +2,7 @@
 ghost use Rattle.std.specs.Prelude.{◌≡◌, ◌≢◌, ◌≤◌, [], ◌∷◌, Ok, Err, IfErr, IfOk, MatchResult};
 ghost use Rattle.map_model.specs.Batch.{IsBatch};
 ghost use Rattle.outside.specs.Faults.{BothTell, Rose};
-ghost use Rattle.glb.specs.Outcome.{AreLoaded, AreLoadsOf};
+ghost use Rattle.glb.specs.Loads.{AreLoadsOf};
 ghost use Rattle.glb.specs.Files.{changes_file, changes_read, map_file, mapped_of, refused, topology_file, topology_of};
 ghost use Rattle.map_text.specs.Writing.{mapped};
 ghost use Rattle.glb.specs.Ending.{AreBytes, IsReading, IsRefusedBy, IsTooLong, StopsBy};
@@ -119,14 +119,10 @@ fn load_file<F: Shelf>(
 ) -> Result<Vec<u8>, Stop>
     ensures noted { BothTell (F.told files.old).past (F.told files.new).past
         (AreLoadsOf (λ _. record { name = name.now; limit = limit } ∷ [])) }
-    ensures loaded { MatchResult result
-        (λ _. BothTell (F.told files.old).past (F.told files.new).past
-        (AreLoaded (λ _. record { name = name.now; limit = limit } ∷ [])))
-        (StopsBy (λ _. BothTell (F.told files.old).past (F.told files.new).past
-        (AreLoaded (λ _. record { name = name.now; limit = limit } ∷ [])))) }
     ensures bytes { MatchResult result (λ b.
-        AreBytes (F.told files.old).past name.now limit b.items)
-        (StopsBy (IsTooLong (F.told files.old).past name.now limit (text.line too_long.now))) }
+        AreBytes (F.told files.old).past (F.told files.new).past name.now limit b.items)
+        (StopsBy (IsTooLong (F.told files.old).past (F.told files.new).past
+        name.now limit (text.line too_long.now))) }
     ensures later { (F.told files.old).faults ≤ (F.told files.new).faults }
     ensures cause { result ≡ Err Stop.SourceFault
         → Rose (F.told files.old).faults (F.told files.new).faults }

@@ -2,6 +2,7 @@
 ghost use Rattle.std.specs.Prelude.{◌≢◌, Err, IfOk};
 ghost use Rattle.map_model.specs.Allocation.{IsGood, IsMapForm};
 ghost use Rattle.mapper.specs.Mappers.{IsFromScratch};
+ghost use Rattle.glb.specs.Loads.{files_between};
 ghost use Rattle.glb.specs.Map.{IsMapDue, IsMapped, loads_of_map};
 ghost use Rattle.glb.specs.Ending.{EndsBy, IsEnd};
 
@@ -44,7 +45,8 @@ fn report(alloc: Global, topology: &Topology) -> Result<Report, Stop>
 
 /// A good map for the instance of the topology of a file.
 pub fn map_files<F: Shelf>(alloc: Global, files: &mut F, topology: &str) -> Result<Report, Stop>
-    ensures { IsEnd (loads_of_map topology.now) (IsMapDue topology.now (F.told files.old).past)
+    ensures { IsEnd (loads_of_map topology.now) (IsMapDue topology.now
+        (files_between (F.told files.old).past (F.told files.new).past))
         (F.told files.old)
         (F.told files.new) result }
 {

@@ -4,6 +4,7 @@ ghost use Rattle.map_model.specs.declared.lines.MapLine.{MapLine};
 ghost use Rattle.map_model.specs.Allocation.{IsGood, names_of};
 ghost use Rattle.map_model.specs.Progress.{IsGroupBest};
 ghost use Rattle.evict.specs.Standing.{IsReady};
+ghost use Rattle.glb.specs.Loads.{files_between};
 ghost use Rattle.glb.specs.Places.{IsPlacesDue, IsSpreadOut, loads_of_places};
 ghost use Rattle.glb.specs.Ending.{EndsBy, IsEnd};
 
@@ -48,8 +49,9 @@ fn report(alloc: Global, topology: &Topology) -> Result<Report, Stop>
 
 /// How many units stand at each place by a group-best map for the instance of the topology of a file.
 pub fn places_files<F: Shelf>(alloc: Global, files: &mut F, topology: &str) -> Result<Report, Stop>
-    ensures { IsEnd (loads_of_places topology.now) (IsPlacesDue
-        topology.now (F.told files.old).past) (F.told files.old) (F.told files.new) result }
+    ensures { IsEnd (loads_of_places topology.now) (IsPlacesDue topology.now
+        (files_between (F.told files.old).past (F.told files.new).past))
+        (F.told files.old) (F.told files.new) result }
 {
     let topology = load_topology(alloc, files, topology)?;
     report(alloc, &topology)

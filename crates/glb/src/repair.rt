@@ -3,6 +3,7 @@ ghost use Rattle.std.specs.Prelude.{◌≢◌, Err, IfOk};
 ghost use Rattle.map_model.specs.Allocation.{IsGood};
 ghost use Rattle.map_model.specs.Batch.{IsBatch};
 ghost use Rattle.map_text.specs.Writing.{mapped};
+ghost use Rattle.glb.specs.Loads.{files_between};
 ghost use Rattle.glb.specs.Ending.{EndsBy, IsEnd, outcome_of};
 ghost use Rattle.glb.specs.Repair.{IsRepairDue, IsRepairOf, IsRepaired, loads_of_repair};
 
@@ -69,7 +70,8 @@ pub fn repair_files<F: Shelf>(
     changes: &str,
 ) -> Result<Report, Stop>
     ensures { IsEnd (loads_of_repair topology.now map.now changes.now)
-        (IsRepairDue topology.now map.now changes.now (F.told files.old).past)
+        (IsRepairDue topology.now map.now changes.now
+        (files_between (F.told files.old).past (F.told files.new).past))
         (F.told files.old)
         (F.told files.new) result }
 {

@@ -1,7 +1,8 @@
 //! Commands that say one text on what files say.
-ghost use Rattle.std.specs.Prelude.{◌≡◌, ◌≢◌, ◌≤◌, ◌⊎◌, IsSome, option_map};
+ghost use Rattle.std.specs.Prelude.{◌≡◌, ◌≢◌, ◌≤◌, ◌⊎◌, IsSomeAnd, option_map};
 ghost use Rattle.outside.specs.Faults.{BothTell, Rose};
-ghost use Rattle.glb.specs.Outcome.{AreLoaded, AreLoadsOf, HasExactCauses, IsSaid};
+ghost use Rattle.glb.specs.Loads.{AreLoaded, AreLoadsOf, files_between};
+ghost use Rattle.glb.specs.Outcome.{HasExactCauses, IsSaid};
 ghost use Rattle.glb.specs.Run.{IsDue, IsGoodRun, IsSayingRun, IsSound, loads_of, loads_of_ask};
 ghost use Rattle.glb.specs.Commands.{ask_of};
 ghost use Rattle.glb.specs.Ending.{EndsBy, IsEnd};
@@ -22,7 +23,8 @@ const USAGE: &[u8] = b"usage: glb check, answer, map, repair, serve or large\n";
 /// Does what a command asks for, up to its text.
 fn run_command<F: Shelf>(alloc: Global, files: &mut F, command: Command<'_>) -> Result<Report, Stop>
     ensures end { IsEnd (loads_of_ask (ask_of command.entry))
-        (IsDue (ask_of command.entry) (F.told files.old).past)
+        (IsDue (ask_of command.entry)
+        (files_between (F.told files.old).past (F.told files.new).past))
         (F.told files.old)
         (F.told files.new) result }
     ensures said { EndsBy IsSaid result }
@@ -53,26 +55,22 @@ pub fn run_files<F: Shelf, K: Sink>(
     out: &mut K,
 ) -> Status
     ensures run { IsSayingRun (option_map ask_of command.entry)
-        (record { files = (F.told files.old).past; out = (K.told out.old).past })
-        (record { files = (F.told files.new).past; out = (K.told out.new).past }) result }
+        (record { files = F.told files.old; out = K.told out.old })
+        (record { files = F.told files.new; out = K.told out.new }) result }
     ensures noted { BothTell (F.told files.old).past (F.told files.new).past
         (AreLoadsOf (loads_of (option_map ask_of command.entry))) }
     ensures loaded { result ≢ Status.SourceFault → result ≢ Status.NoMemory
         → BothTell (F.told files.old).past (F.told files.new).past
         (AreLoaded (loads_of (option_map ask_of command.entry))) }
-    ensures causes { HasExactCauses (record {
-      files = (F.told files.old).faults;
-      out = (K.told out.old).faults;
-    }) (record {
-      files = (F.told files.new).faults;
-      out = (K.told out.new).faults;
-    }) result }
+    ensures causes { HasExactCauses
+        (record { files = F.told files.old; out = K.told out.old })
+        (record { files = F.told files.new; out = K.told out.new }) result }
     ensures good { result ≡ Status.Ok
         → IsGoodRun (option_map ask_of command.entry)
-        (record { files = (F.told files.old).past; out = (K.told out.old).past })
-        (record { files = (F.told files.new).past; out = (K.told out.new).past }) }
-    ensures complete { IsSome (F.told files.old).past
-        → IsSound (option_map ask_of command.entry) (F.told files.old).past
+        (record { files = F.told files.old; out = K.told out.old })
+        (record { files = F.told files.new; out = K.told out.new }) }
+    ensures complete { IsSomeAnd (F.told files.old).past
+        (λ f. IsSomeAnd f.holds (IsSound (option_map ask_of command.entry)))
         → ¬ Rose (F.told files.old).faults (F.told files.new).faults
         → ¬ Rose (K.told out.old).faults (K.told out.new).faults → (result ≡ Status.Ok)
         ⊎ (result ≡ Status.NoMemory) }

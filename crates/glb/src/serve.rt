@@ -9,8 +9,8 @@ ghost use Rattle.glb.specs.Program.{IsPromised};
 ghost use Rattle.glb.specs.Serve.{IsFirstSession, IsSession, PlacedFirst, is_cell_fault, is_port_fault, is_spent, status_by};
 ghost use Rattle.glb.specs.Starting.{IsAskedSome, at_place, status_at};
 ghost use Rattle.glb.specs.Commands.{service_asked};
-ghost use Rattle.drive.specs.Told.{IsSameLent};
-ghost use Rattle.glb.specs.Told.{stage_of, told_over};
+ghost use Rattle.drive.specs.Told.{IsSameLent, lent_of};
+ghost use Rattle.glb.specs.Told.{told_over};
 ghost use Rattle.glb.specs.Words.{given, lanes_of, most_workers, serve as task, streams_of};
 
 use crate::ending::finish;
@@ -257,10 +257,8 @@ fn serve_first<
     requires feeds { length lent.old.more.now ≡ 3 }
     ensures keeps { IsSameLent lent.old lent.new }
     ensures served { IsFirstSession lent.old.turns (service_asked service.now) crew.mapper.newest
-        (stage_of S.told N.told N.opens K.told M.told
-        lent.old stream.old)
-        (stage_of S.told N.told N.opens K.told M.told
-        lent.new stream.new)
+        (lent_of S.told N.told K.told M.told lent.old stream.old)
+        (lent_of S.told N.told K.told M.told lent.new stream.new)
         result }
 {
     match start_lanes(
@@ -340,10 +338,8 @@ fn serve_topology<
     requires feeds { length lent.old.more.now ≡ 3 }
     ensures keeps { IsSameLent lent.old lent.new }
     ensures session { IsSession lent.old.turns (service_asked service.now) beginning.topology
-        (stage_of S.told N.told N.opens K.told M.told
-        lent.old stream.old)
-        (stage_of S.told N.told N.opens K.told M.told
-        lent.new stream.new)
+        (lent_of S.told N.told K.told M.told lent.old stream.old)
+        (lent_of S.told N.told K.told M.told lent.new stream.new)
         result }
 {
     let Beginning { history, topology } = beginning;
@@ -395,9 +391,9 @@ pub fn serve<
     requires feeds { length lent.old.more.now ≡ 3 }
     ensures keeps { IsSameLent lent.old lent.new }
     ensures promised { IsPromised lent.old.turns (Some (task (service_asked service.now)))
-        (told_over F.told S.told N.told N.opens K.told M.told
+        (told_over F.told S.told N.told K.told M.told
         files.old lent.old stream.old)
-        (told_over F.told S.told N.told N.opens K.told M.told
+        (told_over F.told S.told N.told K.told M.told
         files.new lent.new stream.new)
         result }
 {

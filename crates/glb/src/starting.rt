@@ -3,7 +3,6 @@ ghost use Rattle.std.specs.Prelude.{◌≡◌, ◌≤◌, ◌∷◌, [], length,
 ghost use Rattle.glb.specs.Commands.{service_asked};
 ghost use Rattle.glb.specs.Starting.{HasNamed, HasOpened, IsStart, IsStreamStart};
 ghost use Rattle.glb.specs.Words.{given};
-ghost use Rattle.drive.specs.Told.{feed_told};
 
 use crate::words::Service;
 use addr_text::Listen;
@@ -72,14 +71,8 @@ fn open_feed<N: NamedSource>(feeds: &mut [N], name: &str) -> Opening
     requires { length feeds.old ≡ 1 }
     ensures same { length feeds.new ≡ length feeds.old }
     ensures named { HasNamed (name.now ∷ []) result
-        (record {
-          feeds = map (feed_told N.told) feeds.old;
-          opens = map N.opens feeds.old;
-        })
-        (record {
-          feeds = map (feed_told N.told) feeds.new;
-          opens = map N.opens feeds.new;
-        }) }
+        (map N.told feeds.old)
+        (map N.told feeds.new) }
 {
     feeds[0].open(name)
 }
@@ -89,14 +82,8 @@ pub fn open_feeds<N: NamedSource>(feeds: &mut [N], names: &[Option<&str>]) -> Op
     requires { length names.now ≤ length feeds.old }
     ensures same { length feeds.new ≡ length feeds.old }
     ensures named { HasNamed (given (map (option_map (λ n. n.now)) names.now)) result
-        (record {
-          feeds = map (feed_told N.told) feeds.old;
-          opens = map N.opens feeds.old;
-        })
-        (record {
-          feeds = map (feed_told N.told) feeds.new;
-          opens = map N.opens feeds.new;
-        }) }
+        (map N.told feeds.old)
+        (map N.told feeds.new) }
 {
     let Some((first, rest)) = names.split_first() else {
         return Opening::Ready;
@@ -127,24 +114,16 @@ pub fn start_lanes<N: NamedSource, K: Sink, P: Port, Q: Streams, G: Gate, D: Doo
     ensures feeds { length feeds.new ≡ length feeds.old }
     ensures start { IsStart (service_asked service.now) text.now result
         (record {
-          maps = (K.told maps.old).past;
-          maps_faults = (K.told maps.old).faults;
+          more = map N.told feeds.old;
+          maps = K.told maps.old;
           lanes = lanes.old;
           stream = stream.old;
-          named = record {
-            feeds = map (feed_told N.told) feeds.old;
-            opens = map N.opens feeds.old;
-          };
         })
         (record {
-          maps = (K.told maps.new).past;
-          maps_faults = (K.told maps.new).faults;
+          more = map N.told feeds.new;
+          maps = K.told maps.new;
           lanes = lanes.new;
           stream = stream.new;
-          named = record {
-            feeds = map (feed_told N.told) feeds.new;
-            opens = map N.opens feeds.new;
-          };
         }) }
 {
     if let Opening::Failed = open_ports(lanes, service.workers, &service.listen) {

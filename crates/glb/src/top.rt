@@ -47,9 +47,9 @@ fn run_order<
     requires feeds { length lent.old.more.now ≡ 3 }
     ensures keeps { IsSameLent lent.old lent.new }
     ensures promised { IsPromised lent.old.turns (option_map task_of order.entry)
-        (told_over F.told S.told N.told N.opens K.told M.told
+        (told_over F.told S.told N.told K.told M.told
         files.old lent.old stream.old)
-        (told_over F.told S.told N.told N.opens K.told M.told
+        (told_over F.told S.told N.told K.told M.told
         files.new lent.new stream.new)
         result }
 {
@@ -94,9 +94,9 @@ pub fn glb<
     requires lanes { length lanes.old ≡ 16 }
     requires turns { (1 ≤ turns) × (turns ≤ 2 ^ 48) }
     ensures { IsPromised turns (asked (texts words.now))
-        (all_told F.told S.told N.told N.opens K.told M.told
+        (all_told F.told S.told N.told K.told M.told
         files.old feed.old more.old out.old maps.old lanes.old stream.old pace.old)
-        (all_told F.told S.told N.told N.opens K.told M.told
+        (all_told F.told S.told N.told K.told M.told
         files.new feed.new more.new out.new maps.new lanes.new stream.new pace.new)
         result }
 {

@@ -1,20 +1,22 @@
 //! `glb`, the mapping system of a content delivery network.
 #![tactic(auto)]
 
-ghost use Rattle.std.specs.Prelude.{◌≡◌, length};
+ghost use Rattle.std.specs.Prelude.{◌≡◌, ◌^◌, length};
 ghost use Rattle.std.specs.Process.{exit_status};
+ghost use Rattle.drive.specs.Told.{IsSameLent};
 ghost use Rattle.glb.specs.Outcome.{code_of};
-ghost use Rattle.glb.specs.Told.{all_told};
+ghost use Rattle.glb.specs.Told.{told_over};
 ghost use Rattle.glb_program.specs.Fresh.{new_surroundings};
 ghost use Rattle.glb_program.specs.Ran.{Ran};
 
 mod network;
 
+use drive::Lent;
 use edges::{
     FileShelf, FlagPace, NamedStream, SharedTcp, SharedUdp, StandardStream, StopFlag, StreamSink,
     StreamSource,
 };
-use glb::{Lane, MOST_TURNS, Status, StreamLane, glb};
+use glb::{MOST_TURNS, Status, StreamLane, glb};
 use map_cell::Door;
 use network::{Network, lanes_of};
 use no_memory::NoMemory;
@@ -42,8 +44,8 @@ fn exit_code(status: Status) -> ExitCode
     ExitCode::from(status.code())
 }
 
-/// All of the program behind its words, which it reads: over these files, this feed, these sources of further feeds, these
-/// outputs and these lanes.
+/// All of the program behind its words, which it reads: over these files, and the feeds, outputs, lanes and pace that it is
+/// lent.
 fn run_words<
     R: Threads + Wait + Sync + Env + AllocGlobal,
     F: Shelf,
@@ -58,26 +60,20 @@ fn run_words<
 >(
     rt: &R,
     files: &mut F,
-    feed: &mut S,
-    more: &mut [N],
-    out: &mut K,
-    maps: &mut K,
-    lanes: &mut [Lane<P, G, D>],
+    lent: &mut Lent<'_, '_, '_, '_, '_, '_, S, N, K, P, G, D, M>,
     stream: &mut StreamLane<Q, G, D>,
-    pace: &mut M,
 ) -> Status
-    requires feeds { length more.old ≡ 3 }
-    requires lanes { length lanes.old ≡ 16 }
+    requires feeds { length lent.old.more.now ≡ 3 }
+    requires lanes { length lent.old.lanes.now ≡ 16 }
+    requires turns { lent.old.turns ≡ 2 ^ 48 }
     // All of it is new: so each count of faults counts from 0 on, and what is told is all that was ever asked.
-    requires fresh { (all_told F.told S.told N.told N.opens K.told M.told
-        files.old feed.old more.old out.old maps.old lanes.old stream.old pace.old)
+    requires fresh { (told_over F.told S.told N.told K.told M.told files.old lent.old stream.old)
         ≡ new_surroundings }
+    ensures keeps { IsSameLent lent.old lent.new }
     // Unless the words could not be read for want of memory, where nothing is touched, it is a run of what some words ask for.
-    ensures { Ran
-        (all_told F.told S.told N.told N.opens K.told M.told
-        files.old feed.old more.old out.old maps.old lanes.old stream.old pace.old)
-        (all_told F.told S.told N.told N.opens K.told M.told
-        files.new feed.new more.new out.new maps.new lanes.new stream.new pace.new)
+    ensures ran { Ran
+        (told_over F.told S.told N.told K.told M.told files.old lent.old stream.old)
+        (told_over F.told S.told N.told K.told M.told files.new lent.new stream.new)
         result }
 {
     match read_args(rt) {
@@ -86,14 +82,14 @@ fn run_words<
             rt.alloc(),
             words.as_slice(),
             files,
-            feed,
-            more,
-            out,
-            maps,
-            lanes,
+            lent.feed,
+            lent.more,
+            lent.out,
+            lent.maps,
+            lent.lanes,
             stream,
-            pace,
-            MOST_TURNS,
+            lent.pace,
+            lent.turns,
         ),
         Err(NoMemory) => Status::NoMemory,
     }
@@ -125,17 +121,18 @@ fn main(rt: HostRuntime) -> ExitCode {
                     mut lanes,
                     mut stream,
                 },
-            ) => run_words(
-                host,
-                &mut files,
-                &mut feed,
-                &mut more,
-                &mut out,
-                &mut maps,
-                lanes.as_mut_slice(),
-                &mut stream,
-                &mut pace,
-            ),
+            ) => {
+                let mut lent = Lent {
+                    feed: &mut feed,
+                    more: &mut more,
+                    out: &mut out,
+                    maps: &mut maps,
+                    lanes: lanes.as_mut_slice(),
+                    pace: &mut pace,
+                    turns: MOST_TURNS,
+                };
+                run_words(host, &mut files, &mut lent, &mut stream)
+            }
             Err(NoMemory) => Status::NoMemory,
         }
     };

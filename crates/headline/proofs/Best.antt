@@ -12,8 +12,8 @@ use Rattle.map_model.specs.Progress.{IsGroupBest}
 use Rattle.map_model.proofs.Refused.{refused_limit, refused_node}
 use Rattle.map_model.proofs.Rising.{first_or}
 use Rattle.best_laws.specs.Ahead.{IsRightMap}
-use Rattle.agree_laws.proofs.Amounts.{same_amounts}
-use Rattle.agree_laws.proofs.Same.{same_lines}
+use Rattle.map_laws.proofs.Amounts.{same_amounts}
+use Rattle.map_laws.proofs.Same.{same_lines}
 use Rattle.headline.specs.Headline.{Has, IsAhead, IsAtLeast, IsBestOf, IsFeasible, IsGood, Refuses, Wants, is_under, units}
 use Rattle.headline.specs.View.{Choice, Line, Name, choice, group, instance, line, name, node}
 use Rattle.headline.specs.Headline as page

@@ -95,7 +95,7 @@ right by h w (t ∷ log) n r f newest tries run known_by l =
     let a : f ≤ t.shown = known_by.0 in
     let b : t.shown ≤ known = known_by.1 in
     let notes : All (λ s. s ≤ max r known) t.notes = λ k d within. let one = known_by.2 k d within in omega (arith, one) in
-    tells by h w n newest (max r known) t.notes (turned is_silent t.known t.came tries (λ ts. made is_silent log ts)) (omega (arith, l, a, b)) notes (λ m low. step by h w n r known m t.came log tries low run known_by.3 (right by h w log))
+    tells by h w n newest (max r known) t.notes (turned is_silent t.known t.came tries (λ ts. made is_silent log ts)) (omega (arith, l, a, b)) notes (λ m low. step by h w n r known m t.came log tries low run known_by.4 (right by h w log))
 
 -- WHAT IS TOLD OF IT
 

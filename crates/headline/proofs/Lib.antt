@@ -6,6 +6,7 @@ pub mod Best
 pub mod Repaired
 pub mod Events
 pub mod Order
+pub mod Minding
 pub mod Serving
 pub mod Changes
 pub mod Streams

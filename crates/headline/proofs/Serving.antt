@@ -1,7 +1,6 @@
 -- What a run of `serve` publishes and replies.
 use Rattle.std.proofs.Common.{◌≡◌, ◌⊎◌, inl, inr, ℕ, zero, suc, ◌+◌, ◌-◌, ◌<◌, ◌≤◌, Bool, true, false, List, [], ◌∷◌, ◌++◌, length, map, fold, flat_map, slice_get, slice_index_or, All, Option, None, Some, refl, ap, ap₂, sym, subst, ◌∙◌, arith, append_assoc, append-nil}
 use Rattle.std.specs.Prelude.{MatchBool}
-use Rattle.std.specs.List.{range_with_len}
 use mathlib.Core.List.{IsPrefix}
 use Rattle.std.proofs.lemmas.Option.{none-some, same_Some, slice_get_within}
 use Rattle.addr_text.specs.declared.address.Listen.{Listen}
@@ -14,26 +13,29 @@ use Rattle.topology_text.specs.Plan.{IsPlan, Plan}
 use Rattle.published_map.specs.Version.{IsVersion, Version}
 use Rattle.answer_core.specs.declared.way.Way.TheVariants as way
 use Rattle.map_cell.specs.Histories.{IsHistory}
+use Rattle.map_cell.specs.Rows.{AreFirst}
+use Rattle.past_log.specs.Notes.{no_notes}
 use Rattle.lane_model.specs.declared.ended.Ended.{Ended}
 use Rattle.lane_model.specs.declared.ended.Ended.TheVariants as end
 use Rattle.lane_model.specs.Calls.{IsEnd}
 use Rattle.lane_model.specs.Lanes.{Answers, Entry, IsLaneRun, IsTryOf, following}
 use Rattle.lane_model.specs.Machine.{GoesOn}
 use Rattle.lane_model.specs.Replies.{is_silent, replies}
-use Rattle.lane_model.specs.Turns.{IsFated, IsTold, Turn, entries_of, port_turn, tries_of}
+use Rattle.lane_model.specs.Turns.{IsFated, IsTold, Turn, entries_of, notes_turn, port_turn, tries_of}
 use Rattle.drive.specs.Done.{IsDone, IsServedLog, LaneTold, ServerTold}
 use Rattle.drive.specs.Driven.{AreDone, Succeeds}
 use Rattle.glb.specs.declared.status.Status.{Status}
 use Rattle.glb.specs.declared.status.Status.TheVariants as status
 use Rattle.glb.specs.Serve.{AreOpened, AskedFirst, IsFirstOf, PlacedFirst}
 use Rattle.glb.specs.Served.{AreWellDone, IsWellDone}
-use Rattle.headline.specs.Headline.{AreMaps, IsAlike, IsLane, IsMap, places_of}
+use Rattle.headline.specs.Headline.{AreMaps, AreMinded, IsAlike, IsLane, IsMap, places_of}
 use Rattle.headline.specs.Runs.{AreLanes}
 use Rattle.headline.specs.View.{Group, Node, came, choice, group, instance, knew, node, tried}
 use Rattle.map_model.specs.Allocation as code
 use Rattle.headline.proofs.Trees.{IsForest, forest, number}
 use Rattle.headline.proofs.Good.{good_is_good}
 use Rattle.headline.proofs.Order.{in_order}
+use Rattle.headline.proofs.Minding.{datagrams_minded, none_minded, numbers_are}
 use Rattle.headline.proofs.Events.{AreLooked, all_looked, came_made, knew_made, known_folded, last_looked, none_lost, known_of, heard_made, made, packet_of, right, taken_folded, tried_made, tries_folded}
 
 -- MAPS
@@ -134,18 +136,22 @@ run_more a h k w n floor (e ∷ taken) (s ∷ tries) p r =
 
 -- WHAT IS TOLD
 
+-- a port tells of no answer more, and of no reply
+abbrev pub Stays : PortTold → PortTold → Type 0
+Stays b a = (a.taken ≡ b.taken) × (a.tries ≡ b.tries) × (a.places ≡ b.places) × (a.recvs ≡ b.recvs)
+
 -- the port tells of no message more, and of no reply; the door's count did not fall
 abbrev pub IsIdle : LaneTold → LaneTold → Type 0
-IsIdle before after = BothTell before.port after.port (λ b a. (a.taken ≡ b.taken) × (a.tries ≡ b.tries) × (a.places ≡ b.places)) × (before.door_faults ≤ after.door_faults)
+IsIdle before after = BothTell before.port after.port Stays × (before.door_faults ≤ after.door_faults)
 
 abbrev pub AreIdle : List LaneTold → List LaneTold → Type 0
 AreIdle [] after = after ≡ []
 AreIdle (b ∷ before) [] = ⊥
 AreIdle (b ∷ before) (a ∷ after) = IsIdle b a × AreIdle before after
 
-tells_same : (p : Option PortTold) → BothTell p p (λ b c. (c.taken ≡ b.taken) × (c.tries ≡ b.tries) × (c.places ≡ b.places))
+tells_same : (p : Option PortTold) → BothTell p p Stays
 tells_same None = tt
-tells_same (Some b) = (refl, refl, refl)
+tells_same (Some b) = (refl, refl, refl, refl)
 
 pub tells_on : {A : Type 0} (p q r : Option A) (P Q R : A → A → Type 0) → ((a b c : A) → P a b → Q b c → R a c) → BothTell p q P → BothTell q r Q → BothTell p r R
 tells_on None None None P Q R f h i = tt
@@ -162,7 +168,7 @@ tells_so (Some a) None P Q f h = h
 tells_so (Some a) (Some b) P Q f h = f a b h
 
 pub idle_on : (a b c : LaneTold) → IsIdle a b → IsIdle b c → IsIdle a c
-idle_on a b c h i = (tells_on a.port b.port c.port (λ x y. (y.taken ≡ x.taken) × (y.tries ≡ x.tries) × (y.places ≡ x.places)) (λ x y. (y.taken ≡ x.taken) × (y.tries ≡ x.tries) × (y.places ≡ x.places)) (λ x y. (y.taken ≡ x.taken) × (y.tries ≡ x.tries) × (y.places ≡ x.places)) (λ x y z f g. (g.0 ∙ f.0, g.1 ∙ f.1, g.2 ∙ f.2)) h.0 i.0, let l = h.1 in let m = i.1 in omega (arith, l, m))
+idle_on a b c h i = (tells_on a.port b.port c.port Stays Stays Stays (λ x y z f g. (g.0 ∙ f.0, g.1 ∙ f.1, g.2 ∙ f.2, g.3 ∙ f.3)) h.0 i.0, let l = h.1 in let m = i.1 in omega (arith, l, m))
 
 pub all_same : (xs : List LaneTold) → AreIdle xs xs
 all_same [] = refl
@@ -183,15 +189,15 @@ pub asked_idle : (k : ℕ) (xs ys : List LaneTold) → AskedFirst k xs ys → Ar
 asked_idle k [] ys h = h
 asked_idle k (x ∷ xs) ys h = subst (AreIdle (x ∷ xs)) (sym h.2) ((tells_same x.port, h.1), all_same xs)
 
-open_idle : (listen : Listen) (r : Opening) (b c : PortTold) → IsOpen listen r b c → (c.taken ≡ b.taken) × (c.tries ≡ b.tries) × (c.places ≡ b.places)
-open_idle listen opening.Ready b c h = (ap (λ (p : PortTold). p.taken) h, ap (λ (p : PortTold). p.tries) h, ap (λ (p : PortTold). p.places) h)
-open_idle listen opening.Failed b c h = (ap (λ (p : PortTold). p.taken) h.1, ap (λ (p : PortTold). p.tries) h.1, ap (λ (p : PortTold). p.places) h.1)
+open_idle : (listen : Listen) (r : Opening) (b c : PortTold) → IsOpen listen r b c → Stays b c
+open_idle listen opening.Ready b c h = (ap (λ (p : PortTold). p.taken) h, ap (λ (p : PortTold). p.tries) h, ap (λ (p : PortTold). p.places) h, ap (λ (p : PortTold). p.recvs) h)
+open_idle listen opening.Failed b c h = (ap (λ (p : PortTold). p.taken) h.1, ap (λ (p : PortTold). p.tries) h.1, ap (λ (p : PortTold). p.places) h.1, ap (λ (p : PortTold). p.recvs) h.1)
 
 pub opened_idle : (listen : Listen) (rs : List Opening) (xs ys : List LaneTold) → AreOpened listen rs xs ys → AreIdle xs ys
 opened_idle listen [] xs ys h = subst (AreIdle xs) (sym h) (all_same xs)
 opened_idle listen (r ∷ rs) [] ys h = absurd h
 opened_idle listen (r ∷ rs) (x ∷ xs) [] h = absurd h
-opened_idle listen (r ∷ rs) (x ∷ xs) (y ∷ ys) h = ((tells_so x.port y.port (IsOpen listen r) (λ b c. (c.taken ≡ b.taken) × (c.tries ≡ b.tries) × (c.places ≡ b.places)) (open_idle listen r) h.0.port, let same = ap (λ (l : LaneTold). l.door_faults) h.0.rest in omega (arith, same)), opened_idle listen rs xs ys h.1)
+opened_idle listen (r ∷ rs) (x ∷ xs) (y ∷ ys) h = ((tells_so x.port y.port (IsOpen listen r) Stays (open_idle listen r) h.0.port, let same = ap (λ (l : LaneTold). l.door_faults) h.0.rest in omega (arith, same)), opened_idle listen rs xs ys h.1)
 
 -- LANES
 
@@ -199,10 +205,10 @@ idle_lane : (w : ℕ) (t : Option Plan) (maps : List Version) (result : Status) 
 idle_lane w t maps result a c good h = record {
   events = [];
   worker = record { further = []; good = subst (AreMaps t) (sym (append-nil maps)) good; none = λ ok. refl; cause = inl refl; right = tt; notes = inl refl; answered = λ ok. refl };
-  messages = tells_so a.port c.port (λ x y. (y.taken ≡ x.taken) × (y.tries ≡ x.tries) × (y.places ≡ x.places)) (λ x y. map (λ (z : Taken). z.packet) y.taken ≡ map (λ (z : Taken). z.packet) x.taken ++ flat_map came []) (λ x y g. ap (map (λ (z : Taken). z.packet)) g.0 ∙ sym (append-nil (map (λ (z : Taken). z.packet) x.taken))) h.0;
-  known = tells_so a.port c.port (λ x y. (y.taken ≡ x.taken) × (y.tries ≡ x.tries) × (y.places ≡ x.places)) (λ x y. map (λ (z : Taken). z.known) y.taken ≡ map (λ (z : Taken). z.known) x.taken ++ flat_map knew []) (λ x y g. ap (map (λ (z : Taken). z.known)) g.0 ∙ sym (append-nil (map (λ (z : Taken). z.known) x.taken))) h.0;
-  order = tells_so a.port c.port (λ x y. (y.taken ≡ x.taken) × (y.tries ≡ x.tries) × (y.places ≡ x.places)) (λ x y. (new : List Taken) × (y.taken ≡ x.taken ++ new) × (y.places ≡ x.places ++ places_of [] new)) (λ x y g. ([], g.0 ∙ sym (append-nil x.taken), g.2 ∙ sym (append-nil x.places))) h.0;
-  replies = tells_so a.port c.port (λ x y. (y.taken ≡ x.taken) × (y.tries ≡ x.tries) × (y.places ≡ x.places)) (λ x y. y.tries ≡ x.tries ++ flat_map tried []) (λ x y g. g.1 ∙ sym (append-nil x.tries)) h.0;
+  messages = tells_so a.port c.port Stays (λ x y. map (λ (z : Taken). z.packet) y.taken ≡ map (λ (z : Taken). z.packet) x.taken ++ flat_map came []) (λ x y g. ap (map (λ (z : Taken). z.packet)) g.0 ∙ sym (append-nil (map (λ (z : Taken). z.packet) x.taken))) h.0;
+  known = tells_so a.port c.port Stays (λ x y. map (λ (z : Taken). z.known) y.taken ≡ map (λ (z : Taken). z.known) x.taken ++ flat_map knew []) (λ x y g. ap (map (λ (z : Taken). z.known)) g.0 ∙ sym (append-nil (map (λ (z : Taken). z.known) x.taken))) h.0;
+  order = tells_so a.port c.port Stays (λ x y. (new : List Taken) × (y.taken ≡ x.taken ++ new) × (y.places ≡ x.places ++ places_of [] new) × AreMinded x.recvs c.notes.given (map (λ (z : Taken). (z.place, z.known)) new)) (λ x y g. ([], g.0 ∙ sym (append-nil x.taken), g.2 ∙ sym (append-nil x.places), none_minded x.recvs c.notes.given)) h.0;
+  replies = tells_so a.port c.port Stays (λ x y. y.tries ≡ x.tries ++ flat_map tried []) (λ x y g. g.1 ∙ sym (append-nil x.tries)) h.0;
 }
 
 pub all_idle : (w : ℕ) (t : Option Plan) (maps : List Version) (result : Status) (xs ys : List LaneTold) → AreMaps t maps → AreIdle xs ys → AreLanes w t maps result xs ys
@@ -219,19 +225,20 @@ cause_from a b c P Q low h = elim h [
 ]
 
 made_lane : (t : Option Plan) (maps further : List Version) (result : Status) (a b c : LaneTold) (w : ℕ) (log : List Turn) → AreMaps t (maps ++ further) → (result ≡ status.Ok → (further ≡ []) × AreLooked log) → (further ≡ []) ⊎ Rose b.door_faults c.door_faults ⊎ (length maps ≤ c.greatest) → IsLaneRun replies (maps ++ further) w 0 0 (entries_of replies.way log) (tries_of log) → IsTold 0 log → All (λ t. IsFated replies t.came) log
-    → flat_map (λ t. t.notes) log ≡ range_with_len 0 c.noted → IsIdle a b → BothTell b.port c.port (λ x y. y ≡ fold port_turn x log) → IsLane w t maps result a c
-made_lane t maps further result a b c w log good well cause run told fates notes idle port =
+    → AreFirst c.notes → c.notes ≡ fold notes_turn no_notes log → IsIdle a b → BothTell b.port c.port (λ x y. y ≡ fold port_turn x log) → IsLane w t maps result a c
+made_lane t maps further result a b c w log good well cause run told fates first notes idle port =
+    let numbers = numbers_are log c.notes first notes in
     let events = made is_silent log (tries_of log) in
     record {
       events = events;
-      worker = record { further = further; good = good; none = λ ok. (well ok).0; answered = λ ok. none_lost way.Datagram (maps ++ further) w log (well ok).1 0 0 (tries_of log) run; cause = cause_from a.door_faults b.door_faults c.door_faults (further ≡ []) (length maps ≤ c.greatest) idle.1 cause; right = right way.Datagram (maps ++ further) w log 0 0 0 0 (tries_of log) run told (omega arith); notes = inr (heard_made is_silent log (tries_of log) ∙ notes) };
-      messages = tells_on a.port b.port c.port (λ x y. (y.taken ≡ x.taken) × (y.tries ≡ x.tries) × (y.places ≡ x.places)) (λ x y. y ≡ fold port_turn x log) (λ x y. map (λ (z : Taken). z.packet) y.taken ≡ map (λ (z : Taken). z.packet) x.taken ++ flat_map came events)
+      worker = record { further = further; good = good; none = λ ok. (well ok).0; answered = λ ok. none_lost way.Datagram (maps ++ further) w log (well ok).1 0 0 (tries_of log) run; cause = cause_from a.door_faults b.door_faults c.door_faults (further ≡ []) (length maps ≤ c.greatest) idle.1 cause; right = right way.Datagram (maps ++ further) w log 0 0 0 0 (tries_of log) run told (omega arith); notes = inr (heard_made is_silent log (tries_of log) ∙ numbers.0, numbers.1) };
+      messages = tells_on a.port b.port c.port Stays (λ x y. y ≡ fold port_turn x log) (λ x y. map (λ (z : Taken). z.packet) y.taken ≡ map (λ (z : Taken). z.packet) x.taken ++ flat_map came events)
           (λ x y z f g. ap (λ (p : PortTold). map packet_of p.taken) g ∙ taken_folded log y ∙ ap₂ (λ ps qs. ps ++ qs) (ap (map packet_of) f.0) (sym (came_made is_silent log (tries_of log)))) idle.0 port;
-      known = tells_on a.port b.port c.port (λ x y. (y.taken ≡ x.taken) × (y.tries ≡ x.tries) × (y.places ≡ x.places)) (λ x y. y ≡ fold port_turn x log) (λ x y. map (λ (z : Taken). z.known) y.taken ≡ map (λ (z : Taken). z.known) x.taken ++ flat_map knew events)
+      known = tells_on a.port b.port c.port Stays (λ x y. y ≡ fold port_turn x log) (λ x y. map (λ (z : Taken). z.known) y.taken ≡ map (λ (z : Taken). z.known) x.taken ++ flat_map knew events)
           (λ x y z f g. ap (λ (p : PortTold). map known_of p.taken) g ∙ known_folded log y ∙ ap₂ (λ ps qs. ps ++ qs) (ap (map known_of) f.0) (sym (knew_made is_silent log (tries_of log)))) idle.0 port;
-      order = tells_on a.port b.port c.port (λ x y. (y.taken ≡ x.taken) × (y.tries ≡ x.tries) × (y.places ≡ x.places)) (λ x y. y ≡ fold port_turn x log) (λ x y. (new : List Taken) × (y.taken ≡ x.taken ++ new) × (y.places ≡ x.places ++ places_of events new))
-          (λ x y z f g. let o = in_order log y fates in (o.0, ap (λ (p : PortTold). p.taken) g ∙ o.1 ∙ ap (λ ps. ps ++ o.0) f.0, ap (λ (p : PortTold). p.places) g ∙ o.2 ∙ ap (λ ps. ps ++ places_of events o.0) f.2)) idle.0 port;
-      replies = tells_on a.port b.port c.port (λ x y. (y.taken ≡ x.taken) × (y.tries ≡ x.tries) × (y.places ≡ x.places)) (λ x y. y ≡ fold port_turn x log) (λ x y. y.tries ≡ x.tries ++ flat_map tried events)
+      order = tells_on a.port b.port c.port Stays (λ x y. y ≡ fold port_turn x log) (λ x y. (new : List Taken) × (y.taken ≡ x.taken ++ new) × (y.places ≡ x.places ++ places_of events new) × AreMinded x.recvs c.notes.given (map (λ (z : Taken). (z.place, z.known)) new))
+          (λ x y z f g. let o = in_order log y fates in (o.0, ap (λ (p : PortTold). p.taken) g ∙ o.1 ∙ ap (λ ps. ps ++ o.0) f.0, ap (λ (p : PortTold). p.places) g ∙ o.2 ∙ ap (λ ps. ps ++ places_of events o.0) f.2, datagrams_minded log x.recvs y c.notes o.0 f.3 o.1 told notes)) idle.0 port;
+      replies = tells_on a.port b.port c.port Stays (λ x y. y ≡ fold port_turn x log) (λ x y. y.tries ≡ x.tries ++ flat_map tried events)
           (λ x y z f g. ap (λ (p : PortTold). p.tries) g ∙ tries_folded log y ∙ ap₂ (λ ps qs. ps ++ qs) f.1 (sym (tried_made way.Datagram (maps ++ further) w log 0 0 (tries_of log) run))) idle.0 port;
     }
 
@@ -271,7 +278,7 @@ stands {T = T} t a first rest w log served e shown b c plan good d = elim d.whic
 done_lane : (t : Plan) (turns : ℕ) (first : Version) (rest : List Version) (w : ℕ) (result : Status) (x b c : LaneTold) (e : Ended) → first.plan ≡ t → AreMaps (Some t) (first ∷ rest) → (result ≡ status.Ok → ⊥) → IsIdle x b → IsDone turns first rest w b c e → IsLane w (Some t) (first ∷ rest) result x c
 done_lane t turns first rest w result x b c e plan good not_ok idle d =
     let s = stands t replies first rest w d.log d.served e d.shown b c plan good d.served_log in
-    made_lane (Some t) (first ∷ rest) s.further result x b c w d.log s.good (λ ok. absurd (not_ok ok)) s.cause s.run d.served_log.told d.served_log.fates d.served_log.notes idle d.port
+    made_lane (Some t) (first ∷ rest) s.further result x b c w d.log s.good (λ ok. absurd (not_ok ok)) s.cause s.run d.served_log.told d.served_log.fates d.served_log.numbers d.notes idle d.port
 
 pub all_done : (t : Plan) (turns : ℕ) (first : Version) (rest : List Version) (w : ℕ) (result : Status) (ends : List Ended) (xs bs cs : List LaneTold) → first.plan ≡ t → AreMaps (Some t) (first ∷ rest) → (result ≡ status.Ok → ⊥) → AreIdle xs bs → AreDone turns first rest w ends bs cs
     → AreLanes w (Some t) (first ∷ rest) result xs cs
@@ -293,7 +300,7 @@ well_looked turns log end.Spent ending well = elim well [ inl e ↦ absurd (cc) 
 
 well_lane : (t : Plan) (turns : ℕ) (maps : List Version) (w : ℕ) (result : Status) (x b c : LaneTold) → AreMaps (Some t) maps → IsIdle x b → IsWellDone turns maps w b c → IsLane w (Some t) maps result x c
 well_lane t turns maps w result x b c good idle d =
-    made_lane (Some t) maps [] result x b c w d.log (subst (AreMaps (Some t)) (sym (append-nil maps)) good) (λ ok. (refl, well_looked turns d.log d.ended d.ending d.well)) (inl refl) (subst (λ h. IsLaneRun replies h w 0 0 (entries_of replies.way d.log) (tries_of d.log)) (sym (append-nil maps)) d.run) d.told d.fates d.notes idle d.port
+    made_lane (Some t) maps [] result x b c w d.log (subst (AreMaps (Some t)) (sym (append-nil maps)) good) (λ ok. (refl, well_looked turns d.log d.ended d.ending d.well)) (inl refl) (subst (λ h. IsLaneRun replies h w 0 0 (entries_of replies.way d.log) (tries_of d.log)) (sym (append-nil maps)) d.run) d.told d.fates d.numbers d.notes idle d.port
 
 pub all_well : (t : Plan) (turns : ℕ) (maps : List Version) (w n : ℕ) (result : Status) (xs bs cs : List LaneTold) → AreMaps (Some t) maps → AreIdle xs bs → AreWellDone turns maps w n bs cs → AreLanes w (Some t) maps result xs cs
 all_well t turns maps w zero result xs bs cs good idle d = all_idle w (Some t) maps result xs cs good (subst (AreIdle xs) (sym d) idle)

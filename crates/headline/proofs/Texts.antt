@@ -3,7 +3,7 @@ use Rattle.std.proofs.Common.{◌≡◌, ◌⊎◌, inl, inr, ℕ, List, [], ◌
 use Rattle.std.specs.List.{concat}
 use Rattle.std.proofs.lemmas.List.{map-append}
 use Rattle.std.proofs.lemmas.List.Concat.{concat_is}
-use Rattle.outside.specs.Faults.{BothTell}
+use Rattle.outside.specs.Faults.{BothTell, DeviceState}
 use Rattle.outside.specs.Sink.{Written}
 use Rattle.outside.specs.Source.{Fed}
 use Rattle.topology_text.specs.Plan.{Plan}
@@ -20,8 +20,9 @@ use Rattle.mapper.specs.Feeds.{AllWorked, WorkWasCut, first_end}
 use Rattle.mapper.specs.Items.{AllWork, WorksAs}
 use Rattle.mapper.specs.Scenes.{IsAt, IsCutAt, IsCutBehind, IsPrinted, Scene, scene}
 use Rattle.mapper.specs.Words.{map_text}
-use Rattle.drive.specs.Driven.{Lent}
-use Rattle.drive.specs.Feeds.{AreFed, FeedTold}
+use Rattle.drive.specs.Driven.{LentTold}
+use Rattle.outside.specs.Source.{Fed}
+use Rattle.drive.specs.Feeds.{AreFed}
 use Rattle.glb.specs.Feeds.{with_feeds}
 use Rattle.headline.specs.Runs.{ArePut, ArePutInPart, text_of}
 use Rattle.headline.proofs.Serving.{tells_on, tells_so}
@@ -127,8 +128,8 @@ shown before after (cut c d texts more at) = record {
   ];
 }
 
-shown_fed : (t : Plan) (turns : ℕ) (end : FeedEnd) (fed then : FeedTold) (more past : List FeedTold) (before after : Scene) → AreFed t turns end fed more then past before after → Shown before after
-shown_fed t turns end fed then [] past before after f = let s = shown before (record after { pace = f.0.calls }) (came_run t turns end fed.fed then.fed before (record after { pace = f.0.calls }) f.0.run) in record { versions = s.versions; history = s.history; put = s.put }
+shown_fed : (t : Plan) (turns : ℕ) (end : FeedEnd) (fed then : DeviceState Fed) (more past : List (DeviceState Fed)) (before after : Scene) → AreFed t turns end fed more then past before after → Shown before after
+shown_fed t turns end fed then [] past before after f = let s = shown before (record after { pace = f.0.calls }) (came_run t turns end fed.past then.past before (record after { pace = f.0.calls }) f.0.run) in record { versions = s.versions; history = s.history; put = s.put }
 shown_fed t turns end fed then (m ∷ more) past before after f = let s = shown before (record after { pace = f.run.calls }) (came f.run.ended) in record { versions = s.versions; history = s.history; put = s.put }
   where
     came : ((end ≡ first_end f.items) × AllWorked f.items before (record after { pace = f.run.calls })) ⊎ ((end ≡ ends.SinkFault) × WorkWasCut f.items before (record after { pace = f.run.calls })) → Came before (record after { pace = f.run.calls })
@@ -155,12 +156,12 @@ put_more first rest a b c one more = elim more [
     begins : b.bytes ≡ a.bytes ++ text_of first
     begins = one.bytes ∙ ap (λ xs. a.bytes ++ xs) (texts_are (first ∷ []) ∙ append-nil (text_of first))
 
-pub put_by : (t : Plan) (turns count : ℕ) (first : Version) (rest : List Version) (end : FeedEnd) (before placed started after : Lent) (newest : Version) → placed.maps ≡ before.maps → BothTell placed.maps started.maps (IsPrinted (map_text first ∷ []))
-    → AreFed first.plan turns end (with_feeds count started).feed (with_feeds count started).more (with_feeds count after).feed (with_feeds count after).more (scene first (first ∷ []) started.out started.maps started.pace) (scene newest (first ∷ rest) after.out after.maps after.pace)
-    → BothTell before.maps after.maps (λ b a. ArePut (first ∷ rest) b a ⊎ ArePutInPart (first ∷ rest) b a)
+pub put_by : (t : Plan) (turns count : ℕ) (first : Version) (rest : List Version) (end : FeedEnd) (before placed started after : LentTold) (newest : Version) → placed.maps ≡ before.maps → BothTell placed.maps.past started.maps.past (IsPrinted (map_text first ∷ []))
+    → AreFed first.plan turns end (with_feeds count started).feed (with_feeds count started).more (with_feeds count after).feed (with_feeds count after).more (scene first (first ∷ []) started.out.past started.maps.past started.pace.past) (scene newest (first ∷ rest) after.out.past after.maps.past after.pace.past)
+    → BothTell before.maps.past after.maps.past (λ b a. ArePut (first ∷ rest) b a ⊎ ArePutInPart (first ∷ rest) b a)
 put_by t turns count first rest end before placed started after newest same put fed =
-    let s = shown_fed first.plan turns end (with_feeds count started).feed (with_feeds count after).feed (with_feeds count started).more (with_feeds count after).more (scene first (first ∷ []) started.out started.maps started.pace) (scene newest (first ∷ rest) after.out after.maps after.pace) fed in
+    let s = shown_fed first.plan turns end (with_feeds count started).feed (with_feeds count after).feed (with_feeds count started).more (with_feeds count after).more (scene first (first ∷ []) started.out.past started.maps.past started.pace.past) (scene newest (first ∷ rest) after.out.past after.maps.past after.pace.past) fed in
     let versions = tail_is first rest s.versions s.history in
-    let rest_put = subst (λ vs. BothTell started.maps after.maps (λ b a. ArePut vs b a ⊎ ArePutInPart vs b a)) versions s.put in
-    subst (λ m. BothTell m after.maps (λ b a. ArePut (first ∷ rest) b a ⊎ ArePutInPart (first ∷ rest) b a)) same
-    (tells_on placed.maps started.maps after.maps (IsPrinted (map_text first ∷ [])) (λ b a. ArePut rest b a ⊎ ArePutInPart rest b a) (λ b a. ArePut (first ∷ rest) b a ⊎ ArePutInPart (first ∷ rest) b a) (λ x y z p q. put_more first rest x y z p q) put rest_put)
+    let rest_put = subst (λ vs. BothTell started.maps.past after.maps.past (λ b a. ArePut vs b a ⊎ ArePutInPart vs b a)) versions s.put in
+    subst (λ (m : DeviceState Written). BothTell m.past after.maps.past (λ b a. ArePut (first ∷ rest) b a ⊎ ArePutInPart (first ∷ rest) b a)) same
+    (tells_on placed.maps.past started.maps.past after.maps.past (IsPrinted (map_text first ∷ [])) (λ b a. ArePut rest b a ⊎ ArePutInPart rest b a) (λ b a. ArePut (first ∷ rest) b a ⊎ ArePutInPart (first ∷ rest) b a) (λ x y z p q. put_more first rest x y z p q) put rest_put)

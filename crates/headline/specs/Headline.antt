@@ -14,6 +14,7 @@ use Rattle.std.specs.Prelude.{Option, None, Some, option_and_then, option_map}
 use Rattle.std.specs.List.{filter_map, last_or, list_any, range_with_len}
 use Rattle.std.specs.Option.{unwrap_or}
 use Rattle.outside.specs.Faults.{BothTell, Rose, raised}
+use Rattle.outside.specs.Notes.{Given}
 use Rattle.outside.specs.Port.{Packet, Taken, Try}
 use Rattle.outside.specs.Streams.{Piece, StreamsTold, Talk}
 use Rattle.tcp_frames.specs.Split.{framed}
@@ -27,7 +28,7 @@ use Rattle.glb.specs.declared.status.Status.{Status}
 use Rattle.glb.specs.declared.status.Status.TheVariants as status
 use Rattle.headline.specs.View.{Change, Choice, Group, Instance, Line, Name, Node}
 use Rattle.headline.specs.View.{capacity_by, demand_by, instance, line, name}
-use Rattle.headline.specs.View.{Event, told, replied, silent, missed}
+use Rattle.headline.specs.View.{Event, Message, told, replied, silent, missed}
 use Rattle.headline.specs.View.{came, heard, knew, lost, taken, tried}
 
 -- 1. MAPS. An instance is a list of groups, each with its demand and its list of choices, best
@@ -258,10 +259,26 @@ AreRight by maps w n newest (silent known p ∷ events) = (newest ≤ known)
     × AreRight by maps w ((n + 1) % 2 ^ 64) known events
 AreRight by maps w n newest (missed known p ∷ events) = AreRight by maps w n newest events
 
+-- the numbers of notes; and when a worker was given one: an answer of its port is behind a note if at
+-- least as many answers came before it, from a first one on, as None answers before the note (each
+-- turn has a None, and behind it an answer). A count that reached its type's end tells nothing.
+abbrev pub numbers : List Given → List ℕ
+numbers notes = map (λ (g : Given). g.number) notes
+
+abbrev pub IsBehind : ℕ → Given → ℕ → Type 0
+IsBehind first g place = (first + g.place ≤ place) × (place < 2 ^ 64 - 1)
+
+-- A worker minds the notes: at each of these answers, of which each has its place and what the
+-- worker knew when it asked for it, it knew no older map than that of any note that it is behind.
+abbrev pub AreMinded : ℕ → List Given → List (ℕ × ℕ) → Type 0
+AreMinded first notes answers = (g : Given) (place known : ℕ) → Contains notes g →
+    Contains answers (place, known) → IsBehind first g place → g.number ≤ known
+
 -- A worker, over the maps that were published and further ones. Those are good too, and there are
 -- none at status 0, nor where no fault of the worker's door (its way to the newest map) was counted
--- and the door showed no number past the published maps. The worker was told of the first maps, so
--- many, each once and in their order. At status 0 no message that has a reply stays without.
+-- and the door showed no number past the published maps. The worker was told of the first maps, each
+-- once and in their order: of those that the lane tells. At status 0 no message that has a reply
+-- stays without.
 pub record IsWorker {T : Type 0} (by : Way) (w : ℕ) (t : Option Plan) (maps : List Version)
     (result : Status) (before after : ServerTold T) (events : List Event) : Type 0 where
   pub further : List Version
@@ -270,7 +287,8 @@ pub record IsWorker {T : Type 0} (by : Way) (w : ℕ) (t : Option Plan) (maps : 
   pub cause :
       (further ≡ []) ⊎ Rose before.door_faults after.door_faults ⊎ (length maps ≤ after.greatest)
   pub right : AreRight by (maps ++ further) w 0 0 events
-  pub notes : (events ≡ []) ⊎ (flat_map heard events ≡ range_with_len 0 after.noted)
+  pub notes : (events ≡ []) ⊎ ((flat_map heard events ≡ numbers after.notes.given)
+      × (numbers after.notes.given ≡ range_with_len 0 (length after.notes.given)))
   pub answered : result ≡ status.Ok → flat_map lost events ≡ []
 
 -- where each reply was tried, if right behind its message: one more answer of the port than ahead
@@ -283,8 +301,8 @@ places_of (missed known p ∷ events) (x ∷ taken) = places_of events taken
 places_of _ [] = []
 
 -- a worker for datagrams: those that its port tells of, what it says that the worker knew at each,
--- and the replies, behind the earlier ones, are these; and each reply was tried right behind its
--- message, ahead of the port's next answer
+-- and the replies, behind the earlier ones, are these; each reply was tried right behind its
+-- message, ahead of the port's next answer; and at each message the worker minded its notes
 pub record IsLane (w : ℕ) (t : Option Plan) (maps : List Version) (result : Status)
     (before after : LaneTold) : Type 0 where
   pub events : List Event
@@ -295,22 +313,40 @@ pub record IsLane (w : ℕ) (t : Option Plan) (maps : List Version) (result : St
       ≡ map (λ (x : Taken). x.known) b.taken ++ flat_map knew events)
   pub replies : BothTell before.port after.port (λ b a. a.tries ≡ b.tries ++ flat_map tried events)
   pub order : BothTell before.port after.port (λ b a. (new : List Taken)
-      × (a.taken ≡ b.taken ++ new) × (a.places ≡ b.places ++ places_of events new))
+      × (a.taken ≡ b.taken ++ new) × (a.places ≡ b.places ++ places_of events new)
+      × AreMinded b.recvs after.notes.given (map (λ (x : Taken). (x.place, x.known)) new))
 
--- a conversation, and what was taken of it and replied: its octets are these messages from its
--- peer, each behind its length, and more; the replies all go to that peer and, each behind its
--- length, were written to the conversation, up to some octet
-pub record IsTalk (t : Talk) (messages : List Packet) (replies : List Try) : Type 0 where
-  pub from : All (λ p. p.from ≡ t.peer) messages
+-- a piece that was read of a conversation, and the messages that were taken with it
+pub record Round : Type 0 where
+  pub piece : Piece
+  pub messages : List Message
+
+abbrev pub octets_of : List Message → List ℕ
+octets_of messages = flat_map (λ (m : Message). framed m.packet.octets) messages
+
+-- what was held and a piece are its messages, each behind its length, and what is held then; at
+-- each of them the worker knew no older map than when it asked for the piece
+abbrev pub AreRounds : List ℕ → List Round → Type 0
+AreRounds held [] = Unit {0}
+AreRounds held (r ∷ rounds) =
+    (more : List ℕ) × (held ++ r.piece.octets ≡ octets_of r.messages ++ more)
+    × All (λ (m : Message). r.piece.known ≤ m.known) r.messages × AreRounds more rounds
+
+-- a conversation, and what was taken of it and replied: its pieces have these messages from its
+-- peer; the replies all go to that peer and, each behind its length, were written to the
+-- conversation, up to some octet
+pub record IsTalk (t : Talk) (messages : List Message) (replies : List Try) : Type 0 where
+  pub from : All (λ (m : Message). m.packet.from ≡ t.peer) messages
   pub to : All (λ (r : Try). r.to ≡ t.peer) replies
-  pub more : List ℕ
-  pub read : flat_map (λ (x : Piece). x.octets) t.pieces
-      ≡ flat_map (λ (p : Packet). framed p.octets) messages ++ more
+  pub rounds : List Round
+  pub pieces : t.pieces ≡ map (λ (r : Round). r.piece) rounds
+  pub messages_are : messages ≡ flat_map (λ (r : Round). r.messages) rounds
+  pub read : AreRounds [] rounds
   pub cut : ℕ
   pub written : t.written ≡ take cut (flat_map (λ (r : Try). framed r.octets) replies)
 
 pub record Share : Type 0 where
-  pub messages : List Packet
+  pub messages : List Message
   pub replies : List Try
 
 abbrev pub AreTalks : List Talk → List Share → Type 0
@@ -319,12 +355,15 @@ AreTalks (t ∷ talks) [] = ⊥
 AreTalks (t ∷ talks) (s ∷ shares) = IsTalk t s.messages s.replies × AreTalks talks shares
 
 -- the conversations behind the earlier ones, if none was open: what was taken and replied, one
--- conversation after another, is this
-abbrev pub HaveTalked : List Packet → List Try → StreamsTold → StreamsTold → Type 0
-HaveTalked messages replies before after = before.current ≡ None → (talks : List Talk)
+-- conversation after another, is this; and at each piece of them the worker minded these notes
+abbrev pub HaveTalked :
+    List Message → List Try → List Given → StreamsTold → StreamsTold → Type 0
+HaveTalked messages replies notes before after = before.current ≡ None → (talks : List Talk)
     × (shares : List Share) × (after.closed ≡ before.closed ++ talks) × AreTalks talks shares
     × (flat_map (λ (s : Share). s.messages) shares ≡ messages)
     × (flat_map (λ (s : Share). s.replies) shares ≡ replies)
+    × AreMinded before.answers notes (map (λ (x : Piece). (x.place, x.known))
+    (flat_map (λ (t : Talk). t.pieces) talks))
 
 -- the worker for conversations
 pub record IsStreamLane (w : ℕ) (t : Option Plan) (maps : List Version) (result : Status)
@@ -332,4 +371,4 @@ pub record IsStreamLane (w : ℕ) (t : Option Plan) (maps : List Version) (resul
   pub events : List Event
   pub worker : IsWorker way.Stream w t maps result before after events
   pub talks : BothTell before.port after.port
-      (HaveTalked (flat_map taken events) (flat_map tried events))
+      (HaveTalked (flat_map taken events) (flat_map tried events) after.notes.given)

@@ -3,7 +3,6 @@
 use Rattle.std.specs.Prelude.{◌≡◌, ℕ, List, [], map, Contains, Option, Some}
 use Rattle.std.specs.List.{concat}
 use Rattle.outside.specs.Faults.{BothTell}
-use Rattle.outside.specs.Shelf.{Shelved}
 use Rattle.map_model.specs.declared.lines.MapLine.{MapLine}
 use Rattle.map_model.specs.Market.{IsMarket, Market}
 use Rattle.map_model.specs.Allocation.{IsFeasible, IsStable}
@@ -11,7 +10,9 @@ use Rattle.map_model.specs.Progress.{IsGroupBest}
 use Rattle.mapper.specs.Texts as line_of
 use Rattle.glb.specs.declared.status.Status.{Status}
 use Rattle.glb.specs.declared.status.Status.TheVariants as status
+use Rattle.glb.specs.Files.{topology_file}
 use Rattle.glb.specs.Laws.{AreOctetsOf}
+use Rattle.glb.specs.Loads.{Files, files_between, load_with}
 use Rattle.glb.specs.Program.{IsPromised}
 use Rattle.glb.specs.Told.{Surroundings}
 use Rattle.glb.specs.Words.{Service, Task, serve}
@@ -24,15 +25,16 @@ abbrev pub Promised : Type 0
 Promised = (turns : ℕ) (task : Option Task) (before after : Surroundings) (result : Status) →
     IsPromised turns task before after result → IsHeadline task before after result
 
--- A run of `serve` at status 0 with one feed: its file holds these octets, and its feed gave these.
+-- A run of `serve` at status 0 with one feed: a load of its topology's file gave these octets, and
+-- its feed gave these.
 pub record IsOver (turns : ℕ) (ask : Service) (before after : Surroundings)
     (topology feed : List ℕ) : Type 0 where
   pub promised : IsPromised turns (Some (serve ask)) before after status.Ok
   pub alone : ask.more ≡ []
-  pub shelf : Shelved
-  pub told : before.files ≡ Some shelf
-  pub holds : shelf.holds ask.topology ≡ Some topology
-  pub gave : AreOctetsOf before.stage.lent.feed.fed after.stage.lent.feed.fed feed
+  pub files : Files
+  pub told : files_between before.files.past after.files.past ≡ Some files
+  pub loaded : Contains files.loads (load_with ask.topology topology_file.limit topology)
+  pub gave : AreOctetsOf before.lent.feed.past after.lent.feed.past feed
 
 -- its output says that memory was wanting for a commit
 abbrev pub LackedMemory : Surroundings → Surroundings → Type 0
@@ -41,7 +43,7 @@ LackedMemory before after =
 
 abbrev pub PutsMaps : List ℕ → Surroundings → Surroundings → Type 0
 PutsMaps octets before after =
-    BothTell before.stage.lent.maps after.stage.lent.maps (Puts octets)
+    BothTell before.lent.maps.past after.lent.maps.past (Puts octets)
 
 -- Two such runs over the same octets put the same on their outputs, and the same maps, unless one
 -- says that memory was wanting.

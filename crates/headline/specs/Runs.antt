@@ -28,6 +28,7 @@ use Rattle.glb.specs.Datagram.{Datagram}
 use Rattle.glb.specs.Files.{Kind, changes_file, map_file, topology_file}
 use Rattle.glb.specs.Files as glb
 use Rattle.glb.specs.Laws.{AreOctetsOf}
+use Rattle.glb.specs.Loads.{files_between}
 use Rattle.glb.specs.Told.{Surroundings}
 use Rattle.glb.specs.Words.{Service, Task, say, serve, large}
 use Rattle.glb.specs.Words.{answer, check, map_from, places, repair}
@@ -85,69 +86,73 @@ abbrev pub IsFed : Service → Surroundings → Surroundings → Option Plan →
 IsFed ask before after None maps = Unit {0}
 IsFed ask before after (Some t) maps =
     (octets : List ℕ) → ask.more ≡ []
-    → AreOctetsOf before.stage.lent.feed.fed after.stage.lent.feed.fed octets
+    → AreOctetsOf before.lent.feed.past after.lent.feed.past octets
     → (first : Version) × (rest : List Version) × (lines : List (List ℕ))
     × (maps ≡ first ∷ rest) × IsCourse first (tasks t (lines_of true octets)) rest lines
-    × BothTell before.stage.lent.out after.stage.lent.out (Puts (concat lines))
+    × BothTell before.lent.out.past after.lent.out.past (Puts (concat lines))
 
--- `serve`, whatever its status: the maps that it publishes, for the topology that its file holds,
+-- What the octets say that a load of this run gave, of the file of that name; of files that tell
+-- nothing it is some octets.
+abbrev pub Says : {T : Type 0} → Kind T → Surroundings → Surroundings → List ℕ → T → Type 0
+Says kind before after name x =
+    glb.Says kind (files_between before.files.past after.files.past) name x
+
+-- `serve`, whatever its status: the maps that it publishes, for the topology that its file gave,
 -- and what its workers reply; the worker for conversations has the number behind the others
 pub record IsServing (ask : Service) (before after : Surroundings) (result : Status) : Type 0 where
   pub topology : Option Plan
-  pub says : IfSome topology (λ t. glb.Says topology_file before.files ask.topology t)
+  pub says : IfSome topology (λ t. Says topology_file before after ask.topology t)
   pub maps : List Version
   pub good : AreMaps topology maps
   pub history : IsHistory topology maps
-  pub put : BothTell before.stage.lent.maps after.stage.lent.maps
+  pub put : BothTell before.lent.maps.past after.lent.maps.past
       (λ b a. ArePut maps b a ⊎ ArePutInPart maps b a)
   pub all_put : result ≡ status.Ok →
-      BothTell before.stage.lent.maps after.stage.lent.maps (ArePut maps)
+      BothTell before.lent.maps.past after.lent.maps.past (ArePut maps)
   pub fed : result ≡ status.Ok → IsFed ask before after topology maps
-  pub lanes : AreLanes 0 topology maps result before.stage.lent.lanes after.stage.lent.lanes
+  pub lanes : AreLanes 0 topology maps result before.lent.lanes after.lent.lanes
   pub stream : IsStreamLane ask.workers topology maps result
-      before.stage.lent.stream after.stage.lent.stream
+      before.lent.stream after.lent.stream
 
 -- The other commands at status 0. `map` puts the text of the best map of the topology that its file
--- holds, and `places` how many units stand at each place by it.
-abbrev pub Says : {T : Type 0} → Kind T → Surroundings → List ℕ → T → Type 0
-Says kind before name x = glb.Says kind before.files name x
-
+-- gave, and `places` how many units stand at each place by it.
 abbrev pub PutsOut : List ℕ → Surroundings → Surroundings → Type 0
-PutsOut octets before after = BothTell before.stage.lent.out after.stage.lent.out (Puts octets)
+PutsOut octets before after = BothTell before.lent.out.past after.lent.out.past (Puts octets)
 
-abbrev pub HasBest : List ℕ → Surroundings → Version → Type 0
-HasBest topology before v =
-    (t : Plan) × Says topology_file before topology t × IsMap t 0 v × IsFirst t v
+abbrev pub HasBest : List ℕ → Surroundings → Surroundings → Version → Type 0
+HasBest topology before after v =
+    (t : Plan) × Says topology_file before after topology t × IsMap t 0 v × IsFirst t v
 
 abbrev pub IsMapping : List ℕ → Surroundings → Surroundings → Type 0
 IsMapping topology before after =
-    (v : Version) × HasBest topology before v × PutsOut (text_of v) before after
+    (v : Version) × HasBest topology before after v × PutsOut (text_of v) before after
 
 abbrev pub IsPlacing : List ℕ → Surroundings → Surroundings → Type 0
 IsPlacing topology before after =
-    (v : Version) × HasBest topology before v × PutsOut (places_text v.market v.lines) before after
+    (v : Version) × HasBest topology before after v
+    × PutsOut (places_text v.market v.lines) before after
 
--- the files hold a topology and a map for its numbers, which is good
-abbrev pub HasMap : List ℕ → List ℕ → Surroundings → Plan → Version → Type 0
-HasMap topology m before t v =
-    Says topology_file before topology t
-    × ((x : Mapped) × Says (map_file t) before m x × (v ≡ version_of t x)) × IsMap t 0 v
+-- the files gave a topology and a map for its numbers, which is good
+abbrev pub HasMap : List ℕ → List ℕ → Surroundings → Surroundings → Plan → Version → Type 0
+HasMap topology m before after t v =
+    Says topology_file before after topology t
+    × ((x : Mapped) × Says (map_file t) before after m x × (v ≡ version_of t x)) × IsMap t 0 v
 
 -- `check` puts `good`, `answer` the reply of the map, with draw 0, and `repair` the text of the map
--- that follows on it by the changes that a file holds
+-- that follows on it by the changes that a file gave
 abbrev pub IsChecking : List ℕ → List ℕ → Surroundings → Surroundings → Type 0
 IsChecking topology m before after =
-    (t : Plan) × (v : Version) × HasMap topology m before t v × PutsOut text.good before after
+    (t : Plan) × (v : Version) × HasMap topology m before after t v × PutsOut text.good before after
 
 abbrev pub IsAnswering : List ℕ → List ℕ → Datagram → Surroundings → Surroundings → Type 0
 IsAnswering topology m d before after =
-    (t : Plan) × (v : Version) × HasMap topology m before t v
+    (t : Plan) × (v : Version) × HasMap topology m before after t v
     × PutsOut (text.answer (reply_of v d.from d.octets 0 way.Datagram)) before after
 
 abbrev pub IsRepairing : List ℕ → List ℕ → List ℕ → Surroundings → Surroundings → Type 0
 IsRepairing topology m changes before after =
     (t : Plan) × (v : Version) × (w : Version) × (batch : List code.Change)
-    × HasMap topology m before t v × Says (changes_file t) before changes batch
+    × HasMap topology m before after t v × Says (changes_file t) before after changes batch
     × IsMap t 0 w × IsNext v (map change batch) w × PutsOut (text_of w) before after
 
 -- the headline of a run, by what its words ask for; of words that are not taken it says nothing,

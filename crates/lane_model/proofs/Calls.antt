@@ -1,16 +1,13 @@
 -- What a whole call of a lane promises.
-use Rattle.std.proofs.Common.{◌≡◌, ℕ, zero, suc, ◌+◌, ◌-◌, ◌<◌, ◌≤◌, Bool, true, false, if◌then◌else◌, List, [], ◌∷◌, ◌++◌, length, fold, sum_by, All, Option, refl, sym, ap, subst, ◌∙◌, arith}
+use Rattle.std.proofs.Common.{◌≡◌, ℕ, zero, suc, ◌+◌, ◌<◌, ◌≤◌, Bool, true, false, if◌then◌else◌, List, [], ◌∷◌, length, fold, sum_by, All, refl, sym, ap, subst, ◌∙◌, arith}
 use Rattle.std.proofs.lemmas.List.Sums.{sum_by-cons, sum_by_push}
-use Rattle.outside.specs.Faults.{BothTell, Rose, raised}
-use Rattle.outside.specs.Gate.{GateTold, IsTurning}
-use Rattle.outside.specs.declared.gate.Turning.TheVariants.{Stop}
-use Rattle.lane_model.specs.declared.ended.Ended.{Ended}
+use Rattle.outside.specs.Faults.{Rose, raised}
 use Rattle.lane_model.specs.declared.ended.Ended.TheVariants as end
 use Rattle.lane_model.specs.Lanes.{Answers}
-use Rattle.lane_model.specs.Turns.{Turn, Came, AreCalm, IsCame, IsFated, count_after, fails_of, failures, floor_after, gate_turn, is_calm, is_refused, looks_of, refused_of, idle, oversize, ended, failed, took, silent, refused, tried}
-use Rattle.lane_model.specs.Calls.{IsEnd, IsGateRun, IsLaneCall, IsLaneLog, IsLast, AreTurns, Moment}
+use Rattle.lane_model.specs.Turns.{Turn, Came, IsCame, IsFated, count_after, fails_of, failures, floor_after, is_calm, is_refused, looks_of, refused_of, idle, oversize, ended, failed, took, silent, refused, tried}
+use Rattle.lane_model.specs.Calls.{IsEnd, IsLaneLog, AreTurns, Moment}
 use Rattle.lane_model.proofs.Prefixes.{prefix_length}
-use Rattle.lane_model.proofs.Runs.{IsInOrder, turns_gate, turns_notes, turns_port, turns_rises, turns_run, turns_told, tells_on}
+use Rattle.lane_model.proofs.Runs.{IsInOrder, turns_notes, turns_port, turns_rises, turns_run, turns_told}
 
 pub calm_not_refused : (came : Came) → is_calm came ≡ true → is_refused came ≡ false
 calm_not_refused idle c = refl
@@ -20,25 +17,6 @@ calm_not_refused failed c = refl
 calm_not_refused (took d silent) c = refl
 calm_not_refused (took d refused) c = absurd (cc c)
 calm_not_refused (took d (tried serial octets went)) c = refl
-
-not_both : {P : Type 0} (b : Bool) → b ≡ false → b ≡ true → P
-not_both b f t = absurd (cc (f, t))
-
-ordered_calm : (log : List Turn) → AreCalm log → IsInOrder log
-ordered_calm [] c = tt
-ordered_calm (t ∷ log) c = (λ r. not_both (is_refused t.came) (calm_not_refused t.came (c 0 t (omega arith))) r, ordered_calm log (λ k d lt. c (suc k) d (omega (arith, lt))))
-
-ordered_last : (before : List Turn) (t : Turn) → AreCalm before → IsInOrder (before ++ t ∷ [])
-ordered_last [] t c = (λ r. refl, tt)
-ordered_last (x ∷ before) t c = (λ r. not_both (is_refused x.came) (calm_not_refused x.came (c 0 x (omega arith))) r, ordered_last before t (λ k d lt. c (suc k) d (omega (arith, lt))))
-
-pub in_order : (turns : ℕ) (log : List Turn) (e : Ended) → IsEnd turns log e → IsInOrder log
-in_order turns log end.Stopped c = ordered_calm log c.0
-in_order turns log end.PortEnd c = subst IsInOrder (sym c.2) (ordered_last c.0 c.1 c.3)
-in_order turns log end.PortFault c = ordered_calm log c.3
-in_order turns log end.CellFault c = subst IsInOrder (sym c.2) (ordered_last c.0 c.1 c.3)
-in_order turns log (end.Above known newest) c = absurd c
-in_order turns log end.Spent c = ordered_calm log c.0
 
 all_cons : {A : Type 0} (P : A → Type 0) (x : A) (xs : List A) → P x → All P xs → All P (x ∷ xs)
 all_cons P x xs p q zero d lt = p
@@ -166,39 +144,3 @@ log_of a w log m m' s o = record {
   fates = turns_fates a w log m m' s;
   count = turns_count a w log m m' s;
 }
-
--- a gate alone was asked
-log_gate : {V : Type 0} (a : Answers V) (w : ℕ) (log : List Turn) (m mid : Moment V) (gate : Option GateTold) (faults : ℕ) → IsLaneLog a w log m mid → IsLaneLog a w log m (record mid { gate = gate; gate_faults = faults })
-log_gate a w log m mid gate faults c = record { run = c.run; told = c.told; port = c.port; notes = c.notes; rise = c.rise; known = c.known; within = c.within; looks = c.looks; port_faults = c.port_faults; port_stays = c.port_stays; refusal = c.refusal; stays = c.stays; fates = c.fates; count = c.count }
-
-call_same : {V : Type 0} (a : Answers V) (w turns : ℕ) (log : List Turn) (m mid m' : Moment V) (e : Ended) → 0 < length m.eyes.heard → AreTurns a w log m mid → IsEnd turns log e
-    → ((shown : ℕ) → BothTell m.gate mid.gate (λ b c. c ≡ fold gate_turn b log) → BothTell m.gate mid.gate (IsGateRun shown log e)) → m' ≡ mid → IsLaneCall a w turns m m' e
-call_same {V = V} a w turns log m mid m' e some s is gate same =
-    let all = log_of a w log m mid s (in_order turns log e is) in
-    let le = prefix_length m.eyes.heard mid.eyes.heard all.rise.heard in
-    subst (λ (k : Moment V). IsLaneCall a w turns m k e) (sym same) (record {
-      log = log;
-      shown = length mid.eyes.heard - 1;
-      shown_is = omega (arith, le, some);
-      all = all;
-      gate = gate (length mid.eyes.heard - 1) (turns_gate a w log m mid s);
-      ending = is;
-    })
-
--- Some turns and then its end are what a call promises.
-pub call_of : {V : Type 0} (a : Answers V) (w turns : ℕ) (log : List Turn) (m mid m' : Moment V) (e : Ended) → 0 < length m.eyes.heard → AreTurns a w log m mid → IsLast e mid m' → IsEnd turns log e → IsLaneCall a w turns m m' e
-call_of {V = V} a w turns log m mid m' end.Stopped some s last is =
-    let all = log_of a w log m mid s (in_order turns log end.Stopped is) in
-    subst (λ (k : Moment V). IsLaneCall a w turns m k end.Stopped) (sym last.rest) (record {
-      log = log;
-      shown = last.shown;
-      shown_is = last.is_known;
-      all = log_gate a w log m mid m'.gate m'.gate_faults all;
-      gate = tells_on m.gate mid.gate m'.gate (λ b c. c ≡ fold gate_turn b log) (IsTurning last.shown Stop) (IsGateRun last.shown log end.Stopped) (λ b c d r q. subst (λ (k : GateTold). IsTurning last.shown Stop k d) r q) (turns_gate a w log m mid s) last.gate;
-      ending = is;
-    })
-call_of a w turns log m mid m' end.PortEnd some s last is = call_same a w turns log m mid m' end.PortEnd some s is (λ shown g. g) last
-call_of a w turns log m mid m' end.PortFault some s last is = call_same a w turns log m mid m' end.PortFault some s is (λ shown g. g) last
-call_of a w turns log m mid m' end.CellFault some s last is = call_same a w turns log m mid m' end.CellFault some s is (λ shown g. g) last
-call_of a w turns log m mid m' (end.Above known newest) some s last is = absurd is
-call_of a w turns log m mid m' end.Spent some s last is = call_same a w turns log m mid m' end.Spent some s is (λ shown g. g) last

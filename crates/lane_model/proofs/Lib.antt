@@ -5,6 +5,6 @@ pub mod Calls
 pub mod Machines
 pub mod Keeps
 pub mod Minded
-pub mod Ports
 mod Rows
 pub mod Stated
+pub mod Noted

@@ -5,7 +5,7 @@ use Rattle.outside.specs.Faults.{BothTell}
 use Rattle.outside.specs.Port.{Try}
 use Rattle.answer_core.specs.declared.way.Way.{Way}
 use Rattle.lane_model.specs.Lanes.{Answers, Entry, IsLaneRun, IsTryOf, following}
-use Rattle.lane_model.specs.Turns.{Turn, Came, AreGiven, IsCame, IsGiven, IsTold, count_after, entries_of, entries_of_came, floor_after, gate_turn, is_refused, port_turn, tries_of, tries_of_came, idle, oversize, ended, failed, took, silent, refused, tried}
+use Rattle.lane_model.specs.Turns.{Turn, Came, IsCame, IsTold, count_after, entries_of, entries_of_came, floor_after, is_refused, notes_turn, port_turn, tries_of, tries_of_came, idle, oversize, ended, failed, took, silent, refused, tried}
 use Rattle.lane_model.specs.Calls.{IsRise, AreTurns, Moment}
 use Rattle.lane_model.proofs.Prefixes.{prefix_get}
 use Rattle.lane_model.proofs.Going.{rise_none, rise_trans}
@@ -99,7 +99,7 @@ pub turns_told : {V : Type 0} (a : Answers V) (w floor : ℕ) (log : List Turn) 
 turns_told a w floor [] m m' s lt = tt
 turns_told a w floor (t ∷ log) m m' s lt =
     let q = s.1 in
-    (omega (arith, lt, q.shown), q.known, q.noted, turns_told a w (floor_after t.known t.came) log s.0 m' s.2 q.knows)
+    (omega (arith, lt, q.shown), q.known, q.noted, q.floor, turns_told a w (floor_after t.known t.came) log s.0 m' s.2 q.knows)
 
 -- one after the other, where both tell
 pub tells_on : {A : Type 0} (x y z : Option A) (R S Q : A → A → Type 0) → ((b c d : A) → R b c → S c d → Q b d) → BothTell x y R → BothTell y z S → BothTell x z Q
@@ -120,12 +120,7 @@ turns_port a w [] m m' s = subst (λ k. BothTell m.port k.port (λ b c. c ≡ b)
 turns_port a w (t ∷ log) m m' s =
     tells_on m.port s.0.port m'.port (λ b c. c ≡ port_turn b t) (λ b c. c ≡ fold port_turn b log) (λ b c. c ≡ fold port_turn b (t ∷ log)) (λ b c d r q. q ∙ ap (λ k. fold port_turn k log) r) s.1.port (turns_port a w log s.0 m' s.2)
 
-pub turns_gate : {V : Type 0} (a : Answers V) (w : ℕ) (log : List Turn) (m m' : Moment V) → AreTurns a w log m m' → BothTell m.gate m'.gate (λ b c. c ≡ fold gate_turn b log)
-turns_gate a w [] m m' s = subst (λ k. BothTell m.gate k.gate (λ b c. c ≡ b)) (sym s) (tells_same m.gate)
-turns_gate a w (t ∷ log) m m' s =
-    tells_on m.gate s.0.gate m'.gate (λ b c. c ≡ gate_turn b t) (λ b c. c ≡ fold gate_turn b log) (λ b c. c ≡ fold gate_turn b (t ∷ log)) (λ b c d r q. q ∙ ap (λ k. fold gate_turn k log) r) s.1.gate (turns_gate a w log s.0 m' s.2)
-
-pub turns_notes : {V : Type 0} (a : Answers V) (w : ℕ) (log : List Turn) (m m' : Moment V) → AreTurns a w log m m' → BothTell m.notes m'.notes (AreGiven log)
+pub turns_notes : {V : Type 0} (a : Answers V) (w : ℕ) (log : List Turn) (m m' : Moment V) → AreTurns a w log m m' → BothTell m.notes m'.notes (λ b c. c ≡ fold notes_turn b log)
 turns_notes a w [] m m' s = subst (λ k. BothTell m.notes k.notes (λ b c. c ≡ b)) (sym s) (tells_same m.notes)
 turns_notes a w (t ∷ log) m m' s =
-    tells_on m.notes s.0.notes m'.notes (IsGiven t.notes) (AreGiven log) (AreGiven (t ∷ log)) (λ b c d r q. (c, r, q)) s.1.notes (turns_notes a w log s.0 m' s.2)
+    tells_on m.notes s.0.notes m'.notes (λ b c. c ≡ notes_turn b t) (λ b c. c ≡ fold notes_turn b log) (λ b c. c ≡ fold notes_turn b (t ∷ log)) (λ b c d r q. q ∙ ap (λ k. fold notes_turn k log) r) s.1.notes (turns_notes a w log s.0 m' s.2)

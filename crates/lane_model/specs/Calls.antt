@@ -9,7 +9,7 @@ use Rattle.outside.specs.Notes.{NotesTold}
 use Rattle.lane_model.specs.declared.ended.Ended.{Ended}
 use Rattle.lane_model.specs.declared.ended.Ended.TheVariants as end
 use Rattle.lane_model.specs.Lanes.{Answers, IsLaneRun}
-use Rattle.lane_model.specs.Turns.{Turn, AreCalm, AreGiven, IsCame, IsFated, IsGiven, IsTold, count_after, entries_of, fails_of, failures, floor_after, gate_turn, is_refused, looks_of, refused_of, port_after, port_turn, tries_of, ended}
+use Rattle.lane_model.specs.Turns.{Turn, AreCalm, IsCame, IsFated, IsTold, count_after, entries_of, fails_of, failures, floor_after, gate_turn, giving, is_refused, looks_of, notes_turn, refused_of, port_after, port_turn, tries_of, ended}
 
 -- what a viewer has seen and was told of, and its door's numbers
 pub record Eyes (V : Type 0) : Type 0 where
@@ -41,7 +41,7 @@ pub record IsRise {V : Type 0} (e f : Eyes V) : Type 0 where
 -- one turn
 pub record IsTurn {V : Type 0} (a : Answers V) (w : ℕ) (t : Turn) (m m' : Moment V) : Type 0 where
   pub gate : BothTell m.gate m'.gate (λ b c. c ≡ going t.shown b)
-  pub notes : BothTell m.notes m'.notes (IsGiven t.notes)
+  pub notes : BothTell m.notes m'.notes (λ b c. c ≡ giving t.notes b)
   pub port : BothTell m.port m'.port (λ b c. c ≡ port_after t.known t.came b)
   pub shown : t.shown + 1 ≡ length m.eyes.heard
   pub known : t.shown ≤ t.known
@@ -63,14 +63,6 @@ abbrev pub AreTurns : {V : Type 0} → Answers V → ℕ → List Turn → Momen
 AreTurns a w [] m m' = m' ≡ m
 AreTurns {V = V} a w (t ∷ log) m m' = (mid : Moment V) × IsTurn a w t m mid × AreTurns a w log mid m'
 
--- the gate answered Stop, and nothing else was asked
-pub record IsStop {V : Type 0} (m m' : Moment V) : Type 0 where
-  pub shown : ℕ
-  pub is_known : shown + 1 ≡ length m.eyes.heard
-  pub gate : BothTell m.gate m'.gate (IsTurning shown Stop)
-  pub later : m.gate_faults ≤ m'.gate_faults
-  pub rest : m' ≡ record m { gate = m'.gate; gate_faults = m'.gate_faults }
-
 -- Why a lane ended after these turns. All turns but the last go on: recv didn't answer End, no look was refused, fewer than eight calls of the port failed.
 abbrev pub IsEnd : ℕ → List Turn → Ended → Type 0
 IsEnd turns log end.Stopped = AreCalm log × (failures log < 8) × (length log < turns)
@@ -79,15 +71,6 @@ IsEnd turns log end.PortFault = (before : List Turn) × (t : Turn) × (log ≡ b
 IsEnd turns log end.CellFault = (before : List Turn) × (t : Turn) × (log ≡ before ++ t ∷ []) × AreCalm before × (failures before < 8) × (is_refused t.came ≡ true) × (length log ≤ turns)
 IsEnd turns log (end.Above known newest) = ⊥
 IsEnd turns log end.Spent = AreCalm log × (failures log < 8) × (length log ≡ turns)
-
--- after the last turn a Stop, or nothing
-abbrev pub IsLast : {V : Type 0} → Ended → Moment V → Moment V → Type 0
-IsLast end.Stopped m m' = IsStop m m'
-IsLast end.PortEnd m m' = m' ≡ m
-IsLast end.PortFault m m' = m' ≡ m
-IsLast end.CellFault m m' = m' ≡ m
-IsLast (end.Above known newest) m m' = m' ≡ m
-IsLast end.Spent m m' = m' ≡ m
 
 -- a gate after some turns, and at Stopped after its Stop
 abbrev pub IsGateRun : ℕ → List Turn → Ended → GateTold → GateTold → Type 0
@@ -99,7 +82,7 @@ pub record IsLaneLog {V : Type 0} (a : Answers V) (w : ℕ) (log : List Turn) (m
   pub run : (floor : ℕ) → floor < length m.eyes.heard → IsLaneRun a m'.eyes.seen w m.count floor (entries_of a.way log) (tries_of log)
   pub told : (floor : ℕ) → floor < length m.eyes.heard → IsTold floor log
   pub port : BothTell m.port m'.port (λ b c. c ≡ fold port_turn b log)
-  pub notes : BothTell m.notes m'.notes (AreGiven log)
+  pub notes : BothTell m.notes m'.notes (λ b c. c ≡ fold notes_turn b log)
   pub rise : IsRise m.eyes m'.eyes
   pub known : All (λ t. t.known < length m'.eyes.heard) log
   pub within : All (λ t. floor_after t.known t.came < length m'.eyes.heard) log

@@ -24,7 +24,7 @@ pub record Entry : Type 0 where
   pub known : ℕ
   pub way : Way
 
--- the reply that was tried is that of one version of the history, no older than what was known
+-- the reply that was tried is that of one version of the history, by its serial no older than what was known; of time nothing is said
 pub record IsTryOf {V : Type 0} (a : Answers V) (h : List V) (w n : ℕ) (e : Entry) (s : Try) : Type 0 where
   pub to : s.to ≡ e.packet.from
   pub fresh : e.known ≤ s.serial

@@ -1,5 +1,5 @@
 -- The turns of a lane.
-use Rattle.std.specs.Prelude.{◌≡◌, ℕ, ◌≤◌, Bool, true, false, List, [], ◌∷◌, ◌++◌, All, drop, sum_by, Some, option_map, if◌then◌else◌, slice_get}
+use Rattle.std.specs.Prelude.{◌≡◌, ℕ, ◌≤◌, Bool, true, false, List, [], ◌∷◌, ◌++◌, All, drop, map, sum_by, Some, option_map, if◌then◌else◌, slice_get}
 use Rattle.std.specs.List.{flat_map}
 use Rattle.outside.specs.Faults.{raised}
 use Rattle.outside.specs.Port.{Packet, Try, PortTold, answered, taking, trying}
@@ -62,7 +62,7 @@ entries_of_came way known (took d fate) = entries_of_fate way d known fate
 abbrev pub entries_of : Way → List Turn → List Entry
 entries_of way log = flat_map (λ t. entries_of_came way t.known t.came) log
 
--- Told: what a worker knows never falls below what it knew before, what its gate was shown, a note that it was given, or a serial that it used.
+-- Told: what a worker knows never falls below what it knew before, what its gate was shown, a note that it was given, or a serial that it used; and no serial that it used is below what it knew.
 abbrev pub floor_after : ℕ → Came → ℕ
 floor_after known idle = known
 floor_after known oversize = known
@@ -74,7 +74,7 @@ floor_after known (took d (tried serial octets went)) = serial
 
 abbrev pub IsTold : ℕ → List Turn → Type 0
 IsTold floor [] = Unit {0}
-IsTold floor (t ∷ log) = (floor ≤ t.shown) × (t.shown ≤ t.known) × All (λ s. s ≤ t.known) t.notes × IsTold (floor_after t.known t.came) log
+IsTold floor (t ∷ log) = (floor ≤ t.shown) × (t.shown ≤ t.known) × All (λ s. s ≤ t.known) t.notes × (t.known ≤ floor_after t.known t.came) × IsTold (floor_after t.known t.came) log
 
 -- a port after what came
 abbrev pub port_after : ℕ → Came → PortTold → PortTold
@@ -87,9 +87,8 @@ port_after known (took d refused) p = taking d known p
 port_after known (took d (tried serial octets went)) p = trying (record { octets = octets; to = d.from; serial = serial; went = went }) (taking d known p)
 
 -- notes after those with these serials were given, and then a None
-pub record IsGiven (serials : List ℕ) (before after : NotesTold) : Type 0 where
-  pub coming : before.coming ≡ serials ++ after.coming
-  pub nones : after.nones ≡ raised before.nones 1
+abbrev pub giving : List ℕ → NotesTold → NotesTold
+giving serials n = record { given = n.given ++ map (λ s. record { number = s; place = n.nones }) serials; nones = raised n.nones 1 }
 
 -- a port after a turn
 abbrev pub port_turn : PortTold → Turn → PortTold
@@ -99,10 +98,9 @@ port_turn p t = port_after t.known t.came p
 abbrev pub gate_turn : GateTold → Turn → GateTold
 gate_turn g t = going t.shown g
 
--- notes after some turns
-abbrev pub AreGiven : List Turn → NotesTold → NotesTold → Type 0
-AreGiven [] before after = after ≡ before
-AreGiven (t ∷ log) before after = (mid : NotesTold) × IsGiven t.notes before mid × AreGiven log mid after
+-- notes after a turn
+abbrev pub notes_turn : NotesTold → Turn → NotesTold
+notes_turn n t = giving t.notes n
 
 -- what became of a datagram, by the history that its worker has seen
 abbrev pub IsFate : {V : Type 0} → Answers V → List V → ℕ → ℕ → ℕ → Packet → Fate → Type 0

@@ -3,3 +3,4 @@ pub mod Adding
 pub mod Steps
 pub mod Shown
 pub mod Counts
+pub mod Given

@@ -1,14 +1,16 @@
 //! Rows of notes, by which one thread tells others of published versions, and what reads them.
 ghost use Rattle.std.specs.Prelude.{◌≡◌, ◌+◌, ◌<◌, ◌^◌, ◌≤◌, ℕ, length, vec_len, IfSome, IfNone, IfOk, IfErr, MatchBool, MatchOption, None, Some, ◌-◌, option_map, slice_get};
-ghost use Rattle.outside.specs.Faults.{BothTell, raised};
+ghost use Rattle.outside.specs.Faults.{BothTell};
 ghost use Rattle.outside.specs.Limits.{most_notes};
-ghost use Rattle.outside.specs.Notes.{IsNextNote};
-ghost use Rattle.map_cell.specs.Rows.{Gives, noted};
+ghost use Rattle.outside.specs.Notes.{IsNextNote, noting};
+ghost use Rattle.past_log.specs.Notes.{no_notes};
+ghost use Rattle.map_cell.specs.Rows.{AreFirst, Gives};
 
 use crate::front::Naming;
 use crate::viewer::Note;
 use no_memory::NoMemory;
 use outside::{MOST_NOTES, Notes};
+use past_log::{NoteEvent, NotesPast};
 use std::alloc::Global;
 use std::marker::Model;
 use std::sync::{OnceLock, OnceToken, Wait};
@@ -134,38 +136,39 @@ impl<J: Naming> NoteRow<J> {
 pub struct RowNotes<'a, J: Naming> {
     row: &'a NoteRow<J>,
     next: usize,
-    /// How many answers were `None`.
-    nones: u64,
+    /// All that it answered.
+    past: NotesPast,
     /// What shows the note that was given last.
     last: Option<KeptNote<'a, J>>,
 }
 
 impl<'a, J: Naming> Model for RowNotes<'a, J> {
-    ghost use Rattle.std.specs.Prelude.{◌≤◌};
+    ghost use Rattle.std.specs.Prelude.{◌≡◌, ◌≤◌, length};
     ghost use Rattle.outside.specs.Limits.{most_notes};
-    ghost use Rattle.map_cell.specs.Rows.{ReaderState};
+    ghost use Rattle.map_cell.specs.Rows.{AreFirst, ReaderState};
 
     ghost Value = { ReaderState };
 
     ghost view = { λ s. record {
       row = s.row.now;
       given = s.next;
-      nones = s.nones;
+      told = s.past.told;
       last = s.last;
     } };
 
-    ghost invariant = { λ s. s.next ≤ most_notes };
+    ghost invariant = { λ s. (s.next ≤ most_notes)
+        × (length s.past.told.given ≡ s.next) × AreFirst s.past.told };
 }
 
 impl<'a, J: Naming> RowNotes<'a, J> {
     /// The notes of a row, from the first on.
     pub fn over(row: &'a NoteRow<J>) -> RowNotes<'a, J>
-        ensures { result ≡ record { row = row.now; given = 0; nones = 0; last = None } }
+        ensures { result ≡ record { row = row.now; given = 0; told = no_notes; last = None } }
     {
         RowNotes {
             row,
             next: 0,
-            nones: 0,
+            past: NotesPast::new(),
             last: None,
         }
     }
@@ -175,6 +178,15 @@ impl<'a, J: Naming> RowNotes<'a, J> {
         ensures { result ≡ self.now.given }
     {
         self.next
+    }
+
+    /// All that it answered. The notes that it gave are those of the first versions, one after another.
+    pub fn into_past(self) -> NotesPast
+        ensures told { result.told ≡ self.entry.told }
+        ensures first { AreFirst result.told }
+        ensures few { length result.told.given ≤ most_notes }
+    {
+        self.past
     }
 
     /// What shows the note that was given last.
@@ -213,31 +225,32 @@ impl<'a, J: Naming> RowNotes<'a, J> {
 impl<J: Naming> Notes<Note<J>> for RowNotes<'_, J> {
     ghost use Rattle.std.specs.Prelude.{◌-◌, Some};
     ghost use Rattle.outside.specs.Limits.{most_notes};
-    ghost use Rattle.map_cell.specs.Rows.{noted};
 
-    ghost told = { λ s. Some (noted s) };
+    ghost told = { λ s. Some s.told };
 
     ghost left = { λ s. most_notes - s.given };
 
     fn next(&mut self) -> Option<Note<J>>
-        ensures next { BothTell (Some (noted self.old))
-            (Some (noted self.new)) (IsNextNote (option_map (λ n. length n.front - 1) result)) }
+        ensures next { BothTell (Some self.old.told) (Some self.new.told)
+            (IsNextNote (option_map (λ n. length n.front - 1) result)) }
         ensures few { most_notes - self.old.given ≤ most_notes }
         ensures some { IfSome result (λ _.
             most_notes - self.new.given < most_notes - self.old.given) }
         ensures none { IfNone result (most_notes - self.new.given ≡ most_notes - self.old.given) }
         // Each note that it gives is that of the next cell, and it counts it. Else it counts the answer, and nothing else changes.
         ensures gives { MatchOption result (self.new ≡ record self.old {
-          nones
-              = raised self.old.nones 1;
+          told = noting None self.old.told;
         }) (λ note. Gives self.old note.front self.new) }
         // The first one names the first version, and each later one the version behind: they are given in the order of serials, each once.
         ensures number { IfSome result (λ note. length note.front ≡ self.old.given + 1) }
     {
         let Some((note, kept)) = self.due() else {
-            self.nones = self.nones.saturating_add(1);
+            self.past.note(&NoteEvent { number: None });
             return None;
         };
+        self.past.note(&NoteEvent {
+            number: Some(self.next as u64),
+        });
         self.next += 1;
         self.last = Some(kept);
         Some(note)

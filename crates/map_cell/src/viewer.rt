@@ -35,6 +35,10 @@ impl<J: Naming> Numbered for Note<J> {
     ghost use Rattle.std.specs.Prelude.{◌-◌, length};
 
     ghost number = { λ n. length n.front - 1 };
+
+    fn as_number(&self) -> u64 {
+        self.serial()
+    }
 }
 
 impl<J: Naming> Note<J> {

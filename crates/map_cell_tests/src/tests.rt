@@ -134,7 +134,8 @@ fn publish_to<J: Naming, R: Wait>(
     requires good { IsGood new.now.instance new.now.map.lines.items new.now.map.names.items }
     requires shape { IsSameShape old.now.instance new.now.instance }
     requires room { publisher.old.newest.serial < 2 ^ 32 }
-    ensures newest { IfSome result (λ s. IsOf new.now publisher.new.newest × (publisher.new.newest.serial ≡ s)) }
+    ensures newest { IfSome result (λ s. IsOf new.now publisher.new.newest
+        × (publisher.new.newest.serial ≡ s)) }
     ensures serial { IfSome result (λ s. s ≡ publisher.old.newest.serial + 1) }
 {
     let _ = (old.instance.groups(), new.instance.groups());
@@ -303,7 +304,8 @@ fn publish_both<J: Naming, R: Wait>(
     requires newest { IsOf worlds.now.old publisher.old.newest }
     requires room { publisher.old.newest.serial + 1 < 2 ^ 32 }
     requires worlds { AreGood worlds.now.old worlds.now.new }
-    ensures newest { IfSome result (λ s. IsOf worlds.now.old publisher.new.newest × (publisher.new.newest.serial ≡ s)) }
+    ensures newest { IfSome result (λ s. IsOf worlds.now.old publisher.new.newest
+        × (publisher.new.newest.serial ≡ s)) }
     ensures serial { IfSome result (λ s. s ≡ publisher.old.newest.serial + 2) }
 {
     match publish_to(rt, alloc, publisher, &worlds.old, &worlds.new) {

@@ -10,11 +10,11 @@ use Rattle.evict.specs.Standing.{IsPastWanted, Standing}
 use Rattle.best_laws.specs.Ahead.{IsRightMap}
 use Rattle.reopen.specs.Rolling.{IsRolledBack}
 use Rattle.deferred_accept.proofs.Many.{ready_many}
-use Rattle.agree_laws.specs.Below.{IsBestBelow}
-use Rattle.agree_laws.proofs.Backs.{MarkSame, back_lines_one, backs_one, past_one}
-use Rattle.agree_laws.proofs.Cuts.{cut_one}
-use Rattle.agree_laws.proofs.Ends.{best_below, best_below_from, best_below_one, right_of}
-use Rattle.circle_laws.proofs.Best.{best_below_if_best}
+use Rattle.map_laws.specs.Below.{IsBestBelow}
+use Rattle.map_laws.proofs.Backs.{MarkSame, back_lines_one, backs_one, past_one}
+use Rattle.map_laws.proofs.Cuts.{cut_one}
+use Rattle.map_laws.proofs.Ends.{best_below, best_below_from, best_below_one, right_of}
+use Rattle.map_laws.proofs.Best.{best_below_if_best}
 use Rattle.map_repair.specs.Determined.{IsRepairedOf}
 use Rattle.map_repair.proofs.Back.{rolled_back_exists}
 use Rattle.map_repair.proofs.Below.{within_back}

@@ -15,7 +15,7 @@ use Rattle.evict.specs.Standing.{Standing}
 use Rattle.reopen.specs.Cutting.{KeepsSums}
 use Rattle.reopen.specs.Rolling.{CanRollBack, IsBackAt, IsRolledBack, is_marked}
 use Rattle.reopen.proofs.Removing.{IsRolling, rolled_back}
-use Rattle.agree_laws.proofs.Same.{IsSome_line, rank_of, rising_lines}
+use Rattle.map_laws.proofs.Same.{IsSome_line, rank_of, rising_lines}
 
 -- elements that are left out leave ranks that rise
 rises_filter : {X : Type 0} (rank : X → ℕ) (In : X → Type 0) (p : X → Bool) (from : ℕ) (xs : List X) → Rises rank In from xs → Rises rank In from (filter p xs)

@@ -8,7 +8,7 @@ use Rattle.evict.proofs.Shaped.{units_of-same}
 use Rattle.best_laws.specs.Ahead.{IsWithin}
 use Rattle.reopen.specs.Rolling.{IsRolledBack, is_marked}
 use Rattle.deferred_accept.specs.Runs.{HasProposed}
-use Rattle.agree_laws.proofs.Within.{later_many}
+use Rattle.map_laws.proofs.Within.{later_many}
 use Rattle.move_up.specs.Moved.{IsMoved}
 
 module _ (m : Market) (marks : List Bool) (mid moved back : Standing) (move : IsMoved m marks mid moved) (rolled : IsRolledBack m marks mid back) where

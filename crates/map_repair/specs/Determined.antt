@@ -6,7 +6,7 @@ use Rattle.map_model.specs.Progress.{IsReached}
 use Rattle.evict.specs.Standing.{Standing}
 use Rattle.reopen.specs.Cutting.{IsCut}
 use Rattle.reopen.specs.Rolling.{IsRolledBack}
-use Rattle.agree_laws.specs.Below.{IsBestBelow}
+use Rattle.map_laws.specs.Below.{IsBestBelow}
 use Rattle.map_repair.specs.Repaired.{IsStateOf}
 
 -- What both ways to a repaired map begin with: a state that holds the lines of the good map was cut for the new numbers, and the reached trees are marked.

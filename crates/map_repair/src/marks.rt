@@ -23,7 +23,8 @@ impl Model for Marks {
 
     ghost view = { λ m. record { on = m.on.items; pending = m.pending.items } };
 
-    ghost invariant = { λ m. All (λ n. (n.0 < length m.on.items) × (is_on m.on.items n.0 ≡ true)) m.pending.items };
+    ghost invariant = { λ m. All (λ n. (n.0 < length m.on.items) × (is_on m.on.items n.0 ≡ true))
+        m.pending.items };
 }
 
 impl Marks {
@@ -63,7 +64,9 @@ impl Marks {
     /// A marked root that is still to be looked at, and is so no longer; none exactly where there is none.
     pub fn next(&mut self) -> Option<NodeId>
         ensures on { self.new.on ≡ self.old.on }
-        ensures pending { MatchOption result (self.old.pending ≡ []) (λ root. (root.0 < length self.old.on) × (is_on self.old.on root.0 ≡ true) × (self.old.pending ≡ self.new.pending ++ root ∷ [])) }
+        ensures pending { MatchOption result (self.old.pending
+            ≡ []) (λ root. (root.0 < length self.old.on) × (is_on self.old.on root.0 ≡ true)
+            × (self.old.pending ≡ self.new.pending ++ root ∷ [])) }
     {
         self.pending.pop()
     }

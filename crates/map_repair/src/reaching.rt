@@ -28,8 +28,12 @@ fn mark_offer(
     requires size { length marks.old.on ≡ length old.now.nodes }
     requires offer { IsOffer old.now offer.group.0 offer.place }
     ensures marking { OnOk result (IsMarking marks.old marks.new) }
-    ensures held { OnOk result (0 < amount_at state.now.lines offer.group.0 offer.place → is_on marks.new.on (tree_of old.now offer.group.0 offer.place) ≡ true) }
-    ensures within { OnOk result ((trees : ℕ → Bool) → (0 < amount_at state.now.lines offer.group.0 offer.place → trees (tree_of old.now offer.group.0 offer.place) ≡ true) → IsWithin marks.old.on trees → IsWithin marks.new.on trees) }
+    ensures held { OnOk result (0 < amount_at state.now.lines offer.group.0 offer.place
+        → is_on marks.new.on (tree_of old.now offer.group.0 offer.place) ≡ true) }
+    ensures within { OnOk result ((trees : ℕ → Bool)
+        → (0 < amount_at state.now.lines offer.group.0 offer.place
+        → trees (tree_of old.now offer.group.0 offer.place) ≡ true) → IsWithin marks.old.on trees
+        → IsWithin marks.new.on trees) }
 {
     if state.units(offer) > 0 {
         let root = state.root(old.pool_at(offer));
@@ -50,7 +54,10 @@ fn mark_held(
     requires group { group.0 < length old.now.groups }
     ensures marking { OnOk result (IsMarking marks.old marks.new) }
     ensures held { OnOk result (HoldsInMarked old.now state.now.lines marks.new.on group.0) }
-    ensures within { OnOk result ((trees : ℕ → Bool) → ((k : ℕ) → IsOffer old.now group.0 k → 0 < amount_at state.now.lines group.0 k → trees (tree_of old.now group.0 k) ≡ true) → IsWithin marks.old.on trees → IsWithin marks.new.on trees) }
+    ensures within { OnOk result ((trees : ℕ → Bool)
+        → ((k : ℕ) → IsOffer old.now group.0 k → 0 < amount_at state.now.lines group.0 k
+        → trees (tree_of old.now group.0 k) ≡ true) → IsWithin marks.old.on trees
+        → IsWithin marks.new.on trees) }
 {
     for place in 0..old.list_len(group) {
         mark_offer(old, state, marks, Offer { group, place })?;
@@ -96,8 +103,12 @@ fn follow(
     ensures done { OnOk result (AreDone old.now state.now.lines marks.new.on done.new) }
     ensures ahead { OnOk result (ahead.new ≤ length old.now.nodes) }
     ensures marked { OnOk result (AreMarkedTo old.now marks.new.on ahead.new) }
-    ensures followed { OnOk result (offer.place < slice_index state.now.pointers offer.group.0 → HoldsInMarked old.now state.now.lines marks.new.on offer.group.0) }
-    ensures within { OnOk result ((trees : ℕ → Bool) → IsClosedFor old.now state.now offer.group.0 trees → trees (tree_of old.now offer.group.0 offer.place) ≡ true → IsWithin marks.old.on trees → IsWithin marks.new.on trees) }
+    ensures followed { OnOk result (offer.place < slice_index state.now.pointers offer.group.0
+        → HoldsInMarked old.now state.now.lines marks.new.on offer.group.0) }
+    ensures within { OnOk result ((trees : ℕ → Bool)
+        → IsClosedFor old.now state.now offer.group.0 trees
+        → trees (tree_of old.now offer.group.0 offer.place) ≡ true → IsWithin marks.old.on trees
+        → IsWithin marks.new.on trees) }
 {
     if offer.place >= state.pointer(offer.group) {
         return Ok(());
@@ -112,36 +123,46 @@ fn follow(
     Ok(())
 }
 
+/// What is followed: a state of the old instance's map, and which offers there are in each tree.
+#[derive(Clone, Copy)]
+struct Followed<'i> {
+    old: &'i Instance,
+    state: &'i State,
+    asked: &'i Asked,
+}
+
 /// Follows each offer in the tree of a root, until each tree is marked.
 fn look_at(
-    old: &Instance,
-    state: &State,
-    asked: &Asked,
+    followed: &Followed<'_>,
     marks: &mut Marks,
     done: &mut [bool],
     ahead: &mut u32,
     root: NodeId,
 ) -> Result<(), NoMemory>
-    requires ready { IsReady old.now state.now }
-    requires asked { AreAllListed old.now asked.now }
-    requires size { length marks.old.on ≡ length old.now.nodes }
-    requires groups { length done.old ≡ length old.now.groups }
-    requires root { root.0 < length old.now.nodes }
-    requires done { AreDone old.now state.now.lines marks.old.on done.old }
-    requires ahead { ahead.old ≤ length old.now.nodes }
-    requires marked { AreMarkedTo old.now marks.old.on ahead.old }
+    requires ready { IsReady followed.now.old.now followed.now.state.now }
+    requires asked { AreAllListed followed.now.old.now followed.now.asked.now }
+    requires size { length marks.old.on ≡ length followed.now.old.now.nodes }
+    requires groups { length done.old ≡ length followed.now.old.now.groups }
+    requires root { root.0 < length followed.now.old.now.nodes }
+    requires done { AreDone followed.now.old.now followed.now.state.now.lines marks.old.on done.old }
+    requires ahead { ahead.old ≤ length followed.now.old.now.nodes }
+    requires marked { AreMarkedTo followed.now.old.now marks.old.on ahead.old }
     ensures marking { OnOk result (IsMarking marks.old marks.new) }
-    ensures done { OnOk result (AreDone old.now state.now.lines marks.new.on done.new) }
-    ensures ahead { OnOk result (ahead.new ≤ length old.now.nodes) }
-    ensures marked { OnOk result (AreMarkedTo old.now marks.new.on ahead.new) }
-    ensures settled { OnOk result (IsSettled old.now state.now marks.new.on root.0) }
-    ensures within { OnOk result ((trees : ℕ → Bool) → IsClosedForAll old.now state.now trees → trees root.0 ≡ true → IsWithin marks.old.on trees → IsWithin marks.new.on trees) }
+    ensures done { OnOk result
+        (AreDone followed.now.old.now followed.now.state.now.lines marks.new.on done.new) }
+    ensures ahead { OnOk result (ahead.new ≤ length followed.now.old.now.nodes) }
+    ensures marked { OnOk result (AreMarkedTo followed.now.old.now marks.new.on ahead.new) }
+    ensures settled { OnOk result
+        (IsSettled followed.now.old.now followed.now.state.now marks.new.on root.0) }
+    ensures within { OnOk result ((trees : ℕ → Bool)
+        → IsClosedForAll followed.now.old.now followed.now.state.now trees
+        → trees root.0 ≡ true → IsWithin marks.old.on trees → IsWithin marks.new.on trees) }
 {
-    for offer in asked.in_tree(root) {
-        if *ahead == old.nodes() {
+    for offer in followed.asked.in_tree(root) {
+        if *ahead == followed.old.nodes() {
             return Ok(());
         }
-        follow(old, state, marks, done, ahead, *offer)?;
+        follow(followed.old, followed.state, marks, done, ahead, *offer)?;
     }
     Ok(())
 }
@@ -155,7 +176,10 @@ fn next_tree(old: &Instance, state: &State, marks: &mut Marks, ahead: &mut u32) 
     ensures on { marks.new.on ≡ marks.old.on }
     ensures ahead { ahead.new ≤ length old.now.nodes }
     ensures marked { AreMarkedTo old.now marks.new.on ahead.new }
-    ensures pending { MatchOption result ((marks.old.pending ≡ []) ⊎ AreMarkedTo old.now marks.new.on (length old.now.nodes)) (λ root. (root.0 < length marks.old.on) × (is_on marks.old.on root.0 ≡ true) × (marks.old.pending ≡ marks.new.pending ++ root ∷ [])) }
+    ensures pending { MatchOption result ((marks.old.pending ≡ [])
+        ⊎ AreMarkedTo old.now marks.new.on (length old.now.nodes))
+        (λ root. (root.0 < length marks.old.on) × (is_on marks.old.on root.0 ≡ true)
+        × (marks.old.pending ≡ marks.new.pending ++ root ∷ [])) }
 {
     *ahead = unmarked_from(old, state, marks, *ahead);
     if *ahead == old.nodes() {
@@ -179,13 +203,16 @@ fn spread(
     requires done { AreDone old.now state.now.lines marks.old.on done.old }
     requires waiting { (n : ℕ) → is_on marks.old.on n ≡ true → IsPending marks.old n }
     ensures size { OnOk result (length marks.new.on ≡ length marks.old.on) }
-    ensures kept { OnOk result ((n : ℕ) → is_on marks.old.on n ≡ true → is_on marks.new.on n ≡ true) }
+    ensures kept { OnOk result ((n : ℕ) → is_on marks.old.on n ≡ true → is_on marks.new.on n
+        ≡ true) }
     ensures closed { OnOk result (IsClosedForAll old.now state.now (λ n. is_on marks.new.on n)) }
-    ensures within { OnOk result ((trees : ℕ → Bool) → IsClosedForAll old.now state.now trees → IsWithin marks.old.on trees → IsWithin marks.new.on trees) }
+    ensures within { OnOk result ((trees : ℕ → Bool) → IsClosedForAll old.now state.now trees
+        → IsWithin marks.old.on trees → IsWithin marks.new.on trees) }
 {
     let mut ahead = 0;
     while let Some(root) = next_tree(old, state, marks, &mut ahead) {
-        look_at(old, state, asked, marks, done, &mut ahead, root)?;
+        let followed = Followed { old, state, asked };
+        look_at(&followed, marks, done, &mut ahead, root)?;
     }
     Ok(())
 }
@@ -201,8 +228,11 @@ fn mark_capacities(
     requires shape { IsSameShape old.now new.now }
     requires size { length marks.old.on ≡ length old.now.nodes }
     ensures marking { OnOk result (IsMarking marks.old marks.new) }
-    ensures all { OnOk result ((n : ℕ) → n < length old.now.nodes → capacity_of new.now n ≢ capacity_of old.now n → is_on marks.new.on (root_of old.now n) ≡ true) }
-    ensures within { OnOk result ((trees : ℕ → Bool) → IsClosedUnderRepair old.now state.now.lines new.now trees → IsWithin marks.old.on trees → IsWithin marks.new.on trees) }
+    ensures all { OnOk result ((n : ℕ) → n < length old.now.nodes → capacity_of new.now n
+        ≢ capacity_of old.now n → is_on marks.new.on (root_of old.now n) ≡ true) }
+    ensures within { OnOk result ((trees : ℕ → Bool)
+        → IsClosedUnderRepair old.now state.now.lines new.now trees → IsWithin marks.old.on trees
+        → IsWithin marks.new.on trees) }
 {
     for n in 0..old.nodes() {
         let node = NodeId(n);
@@ -225,8 +255,12 @@ fn mark_lowered(
     requires shape { IsSameShape old.now new.now }
     requires size { length marks.old.on ≡ length old.now.nodes }
     ensures marking { OnOk result (IsMarking marks.old marks.new) }
-    ensures all { OnOk result ((g root : ℕ) → g < length old.now.groups → demand_of new.now g < demand_of old.now g → HoldsIn old.now state.now.lines g root → is_on marks.new.on root ≡ true) }
-    ensures within { OnOk result ((trees : ℕ → Bool) → IsClosedUnderRepair old.now state.now.lines new.now trees → IsWithin marks.old.on trees → IsWithin marks.new.on trees) }
+    ensures all { OnOk result ((g root : ℕ) → g < length old.now.groups → demand_of new.now g
+        < demand_of old.now g → HoldsIn old.now state.now.lines g root → is_on marks.new.on root
+        ≡ true) }
+    ensures within { OnOk result ((trees : ℕ → Bool)
+        → IsClosedUnderRepair old.now state.now.lines new.now trees → IsWithin marks.old.on trees
+        → IsWithin marks.new.on trees) }
 {
     for g in 0..old.groups() {
         let group = GroupId(g);

@@ -9,6 +9,7 @@ ghost use Rattle.map_repair.specs.Determined.{IsRepairedOf};
 ghost use Rattle.map_repair.specs.Repaired.{IsKept, IsLocal, IsStateOf, IsWithinSpread, IsWithinTwiceSpread};
 ghost use Rattle.map_repair.specs.Resumed.{HasRepaired, HasResumed, most_turns};
 
+use crate::change::Change;
 use crate::reaching::reached;
 use crate::trying::{go_back, tried_or_anew};
 use deferred_accept::finish;
@@ -38,38 +39,44 @@ pub struct Effort {
 /// `NoMemory`. The state is only to be dropped then.
 pub fn resume<L>(
     alloc: Global,
-    old: &Instance,
-    map: &MapLines,
-    new: &Instance,
-    asked: &Asked,
+    change: &Change<'_>,
     state: &mut State,
     steps: &mut Steps<L>,
 ) -> Result<Effort, NoMemory>
-    requires of_map { IsStateOf old.now state.old }
-    requires good { IsGood old.now map.now.lines.items map.now.names.items }
-    requires holds { state.old.lines ≡ map.now.lines.items }
-    requires asked { AreAllListed old.now asked.now }
-    requires shape { IsSameShape old.now new.now }
-    ensures asked { AreAllListed new.now asked.now }
-    ensures of_map { OnOk result (IsStateOf new.now state.new) }
-    ensures ended { OnOk result (IsEnded new.now state.new.pointers state.new.free) }
-    ensures kept { OnOk result (IsKept old.now state.old.lines new.now state.new.lines) }
-    ensures local { OnOk result (IsLocal old.now state.old.lines new.now state.new.lines) }
-    ensures determined { OnOk result (IsRepairedOf old.now state.old.lines new.now state.new.lines) }
-    ensures counted { IfOk result (λ effort. HasResumed old.now state.old.lines new.now state.new steps.old (steps.old + effort.thrown) steps.new) }
-    ensures steps { IfOk result (λ effort. IsWithinSpread old.now state.old.lines new.now (steps.old + effort.thrown) steps.new) }
-    ensures thrown { IfOk result (λ effort. IsWithinSpread old.now state.old.lines new.now 0 effort.thrown) }
-    ensures few { IfOk result (λ effort. effort.turns ≤ most_turns new.now) }
+    requires of_map { IsStateOf change.now.old.now state.old }
+    requires good { IsGood change.now.old.now change.now.map.now.lines.items
+        change.now.map.now.names.items }
+    requires holds { state.old.lines ≡ change.now.map.now.lines.items }
+    requires asked { AreAllListed change.now.old.now change.now.asked.now }
+    requires shape { IsSameShape change.now.old.now change.now.new.now }
+    ensures asked { AreAllListed change.now.new.now change.now.asked.now }
+    ensures of_map { OnOk result (IsStateOf change.now.new.now state.new) }
+    ensures ended { OnOk result (IsEnded change.now.new.now state.new.pointers state.new.free) }
+    ensures kept { OnOk result
+        (IsKept change.now.old.now state.old.lines change.now.new.now state.new.lines) }
+    ensures local { OnOk result
+        (IsLocal change.now.old.now state.old.lines change.now.new.now state.new.lines) }
+    ensures determined { OnOk result
+        (IsRepairedOf change.now.old.now state.old.lines change.now.new.now state.new.lines) }
+    ensures counted { IfOk result (λ effort.
+        HasResumed change.now.old.now state.old.lines change.now.new.now state.new
+        steps.old (steps.old + effort.thrown) steps.new) }
+    ensures steps { IfOk result (λ effort.
+        IsWithinSpread change.now.old.now state.old.lines change.now.new.now
+        (steps.old + effort.thrown) steps.new) }
+    ensures thrown { IfOk result (λ effort.
+        IsWithinSpread change.now.old.now state.old.lines change.now.new.now 0 effort.thrown) }
+    ensures few { IfOk result (λ effort. effort.turns ≤ most_turns change.now.new.now) }
     ensures later { steps.old ≤ steps.new }
 {
-    let marks = reached(alloc, old, new, asked, state)?;
+    let marks = reached(alloc, change.old, change.new, change.asked, state)?;
     let marked = marks.as_slice();
     let before = steps.count();
-    if let Some(turns) = tried_or_anew(alloc, old, map, new, asked, state, marked, steps)? {
+    if let Some(turns) = tried_or_anew(alloc, change, state, marked, steps)? {
         return Ok(Effort { turns, thrown: 0 });
     }
     let thrown = steps.count() - before;
-    go_back(alloc, old, new, state, marked, steps)?;
+    go_back(alloc, change.old, change.new, state, marked, steps)?;
     Ok(Effort { turns: 0, thrown })
 }
 
@@ -94,14 +101,24 @@ pub fn repair<L>(
     requires shape { IsSameShape old.now new.now }
     ensures good { IfOk result (λ made. IsGood new.now made.lines.items made.names.items) }
     ensures kept { IfOk result (λ made. IsKept old.now map.now.lines.items new.now made.lines.items) }
-    ensures local { IfOk result (λ made. IsLocal old.now map.now.lines.items new.now made.lines.items) }
-    ensures determined { IfOk result (λ made. IsRepairedOf old.now map.now.lines.items new.now made.lines.items) }
-    ensures counted { IfOk result (λ made. HasRepaired old.now map.now.lines.items new.now made.lines.items steps.old steps.new) }
-    ensures steps { OnOk result (IsWithinTwiceSpread old.now map.now.lines.items new.now steps.old steps.new) }
+    ensures local { IfOk result (λ made. IsLocal old.now map.now.lines.items new.now
+        made.lines.items) }
+    ensures determined { IfOk result (λ made. IsRepairedOf old.now map.now.lines.items new.now
+        made.lines.items) }
+    ensures counted { IfOk result (λ made. HasRepaired old.now map.now.lines.items new.now
+        made.lines.items steps.old steps.new) }
+    ensures steps { OnOk result (IsWithinTwiceSpread old.now map.now.lines.items new.now steps.old
+        steps.new) }
     ensures later { steps.old ≤ steps.new }
 {
     let mut state = State::of_map(alloc, old, map)?;
     let asked = Asked::build(alloc, old, &state)?;
-    resume(alloc, old, map, new, &asked, &mut state, steps)?;
+    let change = Change {
+        old,
+        map,
+        new,
+        asked: &asked,
+    };
+    resume(alloc, &change, &mut state, steps)?;
     finish(alloc, new, state)
 }

@@ -12,6 +12,7 @@ ghost use Rattle.map_repair.specs.Repaired.{IsStateOf};
 ghost use Rattle.map_repair.specs.Resumed.{most_turns};
 ghost use Rattle.map_repair.specs.Ways.{HasRunOut, IsCutAndMoved, IsResumed, IsThrown};
 
+use crate::change::Change;
 use best_check::{is_best, is_resumable};
 use deferred_accept::run;
 use evict::State;
@@ -73,25 +74,26 @@ fn run_to_best<L>(
 /// can't be told to be: the state is only to be dropped then. Its proposals are counted all the same.
 fn try_moves<L>(
     alloc: Global,
-    old: &Instance,
-    new: &Instance,
-    asked: &Asked,
+    change: &Change<'_>,
     state: &mut State,
     marks: &[bool],
     steps: &mut Steps<L>,
 ) -> Result<Option<u64>, NoMemory>
-    requires of_map { IsStateOf old.now state.old }
-    requires shape { IsSameShape old.now new.now }
-    requires marks { AreReached old.now state.old.lines new.now marks.now }
-    ensures tried { IfOk result (λ turns. MatchOption turns (IsThrown old.now state.old.lines new.now steps.old steps.new) (λ n. IsResumed old.now state.old.lines new.now state.new steps.old steps.new)) }
-    ensures few { IfOk result (λ turns. IfSome turns (λ n. n ≤ most_turns new.now)) }
+    requires of_map { IsStateOf change.now.old.now state.old }
+    requires shape { IsSameShape change.now.old.now change.now.new.now }
+    requires marks { AreReached change.now.old.now state.old.lines change.now.new.now marks.now }
+    ensures tried { IfOk result (λ turns. MatchOption turns
+        (IsThrown change.now.old.now state.old.lines change.now.new.now steps.old steps.new)
+        (λ n. IsResumed change.now.old.now state.old.lines change.now.new.now state.new
+        steps.old steps.new)) }
+    ensures few { IfOk result (λ turns. IfSome turns (λ n. n ≤ most_turns change.now.new.now)) }
     ensures later { steps.old ≤ steps.new }
 {
-    let turns = moved(alloc, old, new, asked, state, marks)?;
-    if !is_resumable(alloc, new, state)? {
+    let turns = moved(alloc, change.old, change.new, change.asked, state, marks)?;
+    if !is_resumable(alloc, change.new, state)? {
         return Ok(None);
     }
-    if !run_to_best(alloc, new, state, steps)? {
+    if !run_to_best(alloc, change.new, state, steps)? {
         return Ok(None);
     }
     Ok(Some(turns))
@@ -100,26 +102,28 @@ fn try_moves<L>(
 /// Tries to come to the new map by units that move up, in so many turns. Where there are none, the state is one of the old map.
 pub fn tried_or_anew<L>(
     alloc: Global,
-    old: &Instance,
-    map: &MapLines,
-    new: &Instance,
-    asked: &Asked,
+    change: &Change<'_>,
     state: &mut State,
     marks: &[bool],
     steps: &mut Steps<L>,
 ) -> Result<Option<u64>, NoMemory>
-    requires of_map { IsStateOf old.now state.old }
-    requires good { IsGood old.now map.now.lines.items map.now.names.items }
-    requires holds { state.old.lines ≡ map.now.lines.items }
-    requires shape { IsSameShape old.now new.now }
-    requires marks { AreReached old.now state.old.lines new.now marks.now }
-    ensures tried { IfOk result (λ turns. MatchOption turns (IsStateOf old.now state.new × (state.new.lines ≡ state.old.lines) × IsThrown old.now state.old.lines new.now steps.old steps.new) (λ n. IsResumed old.now state.old.lines new.now state.new steps.old steps.new)) }
-    ensures few { IfOk result (λ turns. IfSome turns (λ n. n ≤ most_turns new.now)) }
+    requires of_map { IsStateOf change.now.old.now state.old }
+    requires good { IsGood change.now.old.now change.now.map.now.lines.items
+        change.now.map.now.names.items }
+    requires holds { state.old.lines ≡ change.now.map.now.lines.items }
+    requires shape { IsSameShape change.now.old.now change.now.new.now }
+    requires marks { AreReached change.now.old.now state.old.lines change.now.new.now marks.now }
+    ensures tried { IfOk result (λ turns. MatchOption turns
+        (IsStateOf change.now.old.now state.new × (state.new.lines ≡ state.old.lines)
+        × IsThrown change.now.old.now state.old.lines change.now.new.now steps.old steps.new)
+        (λ n. IsResumed change.now.old.now state.old.lines change.now.new.now state.new
+        steps.old steps.new)) }
+    ensures few { IfOk result (λ turns. IfSome turns (λ n. n ≤ most_turns change.now.new.now)) }
     ensures later { steps.old ≤ steps.new }
 {
-    let turns = try_moves(alloc, old, new, asked, state, marks, steps)?;
+    let turns = try_moves(alloc, change, state, marks, steps)?;
     if turns.is_none() {
-        *state = State::of_map(alloc, old, map)?;
+        *state = State::of_map(alloc, change.old, change.map)?;
     }
     Ok(turns)
 }
@@ -136,7 +140,8 @@ pub fn go_back<L>(
     requires of_map { IsStateOf old.now state.old }
     requires shape { IsSameShape old.now new.now }
     requires marks { AreReached old.now state.old.lines new.now marks.now }
-    ensures resumed { OnOk result (IsResumed old.now state.old.lines new.now state.new steps.old steps.new) }
+    ensures resumed { OnOk result (IsResumed old.now state.old.lines new.now state.new steps.old
+        steps.new) }
     ensures later { steps.old ≤ steps.new }
 {
     // tells the prover what the type keeps

@@ -15,7 +15,7 @@ mod smallest;
 use evict::State;
 use map_model::Change::{Capacity, Demand};
 use map_model::{Change, GroupId, Instance, MapLines, NodeId, Proposals, Steps};
-use map_repair::{Effort, repair, resume};
+use map_repair::{Change, Effort, repair, resume};
 use move_up::Asked;
 use no_memory::NoMemory;
 use stable_check::{CheckRoom, Verdict, check};
@@ -174,7 +174,8 @@ const CROSSED: &[Batch] = &[
 
 /// Whether a map is good for an instance.
 fn is_good(alloc: Global, instance: &Instance, map: &MapLines) -> Result<bool, NoMemory>
-    ensures { IfOk result (λ good. good ≡ true → IsGood instance.now map.now.lines.items map.now.names.items) }
+    ensures { IfOk result (λ good. good ≡ true
+        → IsGood instance.now map.now.lines.items map.now.names.items) }
 {
     let mut room = CheckRoom::new(alloc, instance)?;
     match check(instance, map, &mut room) {
@@ -237,7 +238,13 @@ fn effort(alloc: Global, old: &Instance, map: &MapLines, new: &Instance) -> Resu
     let mut steps: Steps<Proposals> = Steps::new();
     let mut state = State::of_map(alloc, old, map)?;
     let asked = Asked::build(alloc, old, &state)?;
-    resume(alloc, old, map, new, &asked, &mut state, &mut steps)
+    let change = Change {
+        old,
+        map,
+        new,
+        asked: &asked,
+    };
+    resume(alloc, &change, &mut state, &mut steps)
 }
 
 /// The same, where the old map is good.

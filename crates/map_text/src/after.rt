@@ -70,7 +70,8 @@ fn push_lines(
     requires words { HasWords topology.now lexicon.now }
     requires old { old_text.now ≡ flat_map (place_text topology.now) old.now }
     requires offers { AreOffers topology.now.market lines.now }
-    ensures { IfOk result (λ _. text.new.items ≡ text.old.items ++ flat_map (place_text topology.now) lines.now) }
+    ensures { IfOk result (λ _. text.new.items ≡ text.old.items
+        ++ flat_map (place_text topology.now) lines.now) }
 {
     if same_lines(old, lines) {
         text.extend_from_slice(old_text)?;
@@ -91,7 +92,8 @@ fn push_named(
     requires words { HasWords topology.now lexicon.now }
     requires old { old_text.now ≡ flat_map (name_text topology.now) old.now }
     requires named { AreNamed topology.now.market names.now }
-    ensures { IfOk result (λ _. text.new.items ≡ text.old.items ++ flat_map (name_text topology.now) names.now) }
+    ensures { IfOk result (λ _. text.new.items ≡ text.old.items
+        ++ flat_map (name_text topology.now) names.now) }
 {
     if same_names(old, names) {
         text.extend_from_slice(old_text)?;
@@ -112,7 +114,8 @@ fn places_over(
     requires words { HasWords topology.now lexicon.now }
     requires old { IsTextOf (place_text topology.now) old.text.now old.of.now old.cuts.now }
     requires offers { AreOffers topology.now.market lines.now }
-    ensures text { IfOk result (λ _. text.new.items ≡ text.old.items ++ flat_map (place_text topology.now) lines.now) }
+    ensures text { IfOk result (λ _. text.new.items ≡ text.old.items
+        ++ flat_map (place_text topology.now) lines.now) }
     ensures cuts { IfOk result (λ cuts. AreCuts (place_text topology.now) lines.now cuts.items) }
 {
     let mut cuts = Vec::new(alloc);
@@ -146,7 +149,8 @@ fn names_over(
     requires words { HasWords topology.now lexicon.now }
     requires old { IsTextOf (name_text topology.now) old.text.now old.of.now old.cuts.now }
     requires named { AreNamed topology.now.market names.now }
-    ensures text { IfOk result (λ _. text.new.items ≡ text.old.items ++ flat_map (name_text topology.now) names.now) }
+    ensures text { IfOk result (λ _. text.new.items ≡ text.old.items
+        ++ flat_map (name_text topology.now) names.now) }
     ensures cuts { IfOk result (λ cuts. AreCuts (name_text topology.now) names.now cuts.items) }
 {
     let mut cuts = Vec::new(alloc);
@@ -177,7 +181,8 @@ fn write_over(
     map: &MapLines,
     room: usize,
 ) -> Result<Written, NoMemory>
-    requires places { IsTextOf (place_text topology.now) places.text.now places.of.now places.cuts.now }
+    requires places { IsTextOf (place_text topology.now) places.text.now places.of.now
+        places.cuts.now }
     requires names { IsTextOf (name_text topology.now) names.text.now names.of.now names.cuts.now }
     requires form { IsMapForm topology.now.market map.now.lines.items map.now.names.items }
     ensures text { IfOk result (λ w. w.text.items ≡ text_of_map topology.now (mapped map.now)) }

@@ -27,7 +27,9 @@ pub struct Rows<'a, X> {
 
 /// The first piece, as its text and its items, and all behind it. Without a cut all is one piece.
 pub fn cut_off<'a, X>(rows: Rows<'a, X>) -> (&'a [u8], &'a [X], Rows<'a, X>)
-    ensures { (row : X → List ℕ) → IsTextOf row rows.entry.text.now rows.entry.of.now rows.entry.cuts.now → IsTextOf row result.0.now result.1.now [] × IsTextOf row result.2.text.now result.2.of.now result.2.cuts.now }
+    ensures { (row : X → List ℕ) → IsTextOf row rows.entry.text.now rows.entry.of.now
+        rows.entry.cuts.now → IsTextOf row result.0.now result.1.now []
+        × IsTextOf row result.2.text.now result.2.of.now result.2.cuts.now }
 {
     let Rows { text, of, cuts } = rows;
     let Some((cut, cuts)) = cuts.split_first() else {

@@ -114,7 +114,8 @@ pub fn node_word<'a>(topology: &Topology, lexicon: &'a Lexicon, node: NodeId) ->
 pub fn pool_word<'a>(topology: &Topology, lexicon: &'a Lexicon, offer: Offer) -> &'a Word
     requires words { HasWords topology.now lexicon.now }
     requires offer { IsOffer topology.now.market offer.group.0 offer.place }
-    ensures { result.now ≡ name_at topology.now.node_names (pool_of topology.now.market offer.group.0 offer.place) }
+    ensures { result.now ≡ name_at topology.now.node_names
+        (pool_of topology.now.market offer.group.0 offer.place) }
 {
     let pool = topology.instance().pool_at(offer);
     node_word(topology, lexicon, pool)

@@ -40,7 +40,8 @@ pub enum Line {
 
 fn place_line(offer: Option<Offer>, amount: Option<u32>) -> Line
     ensures value { result ≡ place_line offer amount }
-    ensures range { (m : Market) → IfSome offer (λ o. IsOffer m o.group.0 o.place) → IfSome amount (λ a. 0 < a) → IsInRange m result }
+    ensures range { (m : Market) → IfSome offer (λ o. IsOffer m o.group.0 o.place)
+        → IfSome amount (λ a. 0 < a) → IsInRange m result }
 {
     match (offer, amount) {
         (_, None) => Line::Bad,
@@ -55,7 +56,8 @@ fn place_line(offer: Option<Offer>, amount: Option<u32>) -> Line
 
 fn full_line(offer: Option<Offer>, node: Option<NodeId>) -> Line
     ensures value { result ≡ full_line offer (option_map (λ n. n.0) node) }
-    ensures range { (m : Market) → IfSome offer (λ o. IsOffer m o.group.0 o.place) → IfSome node (λ n. n.0 < length m.nodes) → IsInRange m result }
+    ensures range { (m : Market) → IfSome offer (λ o. IsOffer m o.group.0 o.place)
+        → IfSome node (λ n. n.0 < length m.nodes) → IsInRange m result }
 {
     match (offer, node) {
         (Some(Offer { group, place }), Some(node)) => Line::Named(NameLine {
@@ -69,7 +71,8 @@ fn full_line(offer: Option<Offer>, node: Option<NodeId>) -> Line
 
 fn limit_line(offer: Option<Offer>) -> Line
     ensures value { result ≡ limit_line offer }
-    ensures range { (m : Market) → IfSome offer (λ o. IsOffer m o.group.0 o.place) → IsInRange m result }
+    ensures range { (m : Market) → IfSome offer (λ o. IsOffer m o.group.0 o.place)
+        → IsInRange m result }
 {
     match offer {
         Some(Offer { group, place }) => Line::Named(NameLine {
@@ -83,7 +86,13 @@ fn limit_line(offer: Option<Offer>) -> Line
 
 fn read_three(topology: &Topology, words: Three<'_>) -> Line
     ensures range { IsInRange topology.now.market result }
-    ensures value { result ≡ three_entry topology.now (Some (record { keyword = words.entry.keyword.now; group = words.entry.group.now; pool = words.entry.pool.now })) }
+    ensures value { result ≡ three_entry topology.now
+        (Some (record {
+          keyword = words.entry.keyword.now;
+          group = words.entry.group.now;
+          pool =
+              words.entry.pool.now;
+        })) }
 {
     if words.group.is_empty() || words.pool.is_empty() {
         return Line::Bad;
@@ -96,7 +105,14 @@ fn read_three(topology: &Topology, words: Three<'_>) -> Line
 
 fn read_words(topology: &Topology, words: Words<'_>) -> Line
     ensures range { IsInRange topology.now.market result }
-    ensures value { result ≡ entry_of topology.now None (Some (record { keyword = words.entry.keyword.now; group = words.entry.group.now; pool = words.entry.pool.now; last = words.entry.last.now })) }
+    ensures value { result ≡ entry_of topology.now None
+        (Some (record {
+          keyword = words.entry.keyword.now;
+          group = words.entry.group.now;
+          pool =
+              words.entry.pool.now;
+          last = words.entry.last.now;
+        })) }
 {
     if words.group.is_empty() || words.pool.is_empty() || words.last.is_empty() {
         return Line::Bad;

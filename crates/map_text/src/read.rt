@@ -54,7 +54,13 @@ fn is_unknown(line: Line) -> bool
 
 impl Reader {
     fn new(alloc: Global) -> Reader
-        ensures { kept result ≡ record { count = 0; lines = []; names = []; takes_limits = false; is_ended = false } }
+        ensures { kept result ≡ record {
+          count = 0;
+          lines = [];
+          names = [];
+          takes_limits = false;
+          is_ended = false;
+        } }
     {
         Reader {
             count: 0,
@@ -69,7 +75,8 @@ impl Reader {
 
     /// Whether a line that says or does not say of a limit that it refuses can't stand behind the header.
     fn is_misplaced(&self, is_of_limit: bool) -> bool
-        ensures { result ≡ (self.now.is_ended || (self.now.count == 0) || (not self.now.takes_limits && is_of_limit)) }
+        ensures { result ≡ (self.now.is_ended || (self.now.count == 0)
+            || (not self.now.takes_limits && is_of_limit)) }
     {
         self.is_ended || self.count == 0 || (!self.takes_limits && is_of_limit)
     }
@@ -137,7 +144,9 @@ impl Reader {
 impl Reader {
     fn take(&mut self, line: Line) -> Result<(), MapFault>
         requires { self.old.count + 1 < 2 ^ 64 }
-        ensures { MatchResult result (λ _. (fault_of (kept self.old) line ≡ None) × (kept self.new ≡ with_line (kept self.old) line)) (λ e. ¬ (e ≡ MapFault.NoMemory) → fault_of (kept self.old) line ≡ Some e) }
+        ensures { MatchResult result (λ _. (fault_of (kept self.old) line ≡ None)
+            × (kept self.new ≡ with_line (kept self.old) line)) (λ e. ¬ (e ≡ MapFault.NoMemory)
+            → fault_of (kept self.old) line ≡ Some e) }
     {
         if let Some(fault) = self.fault_of(line) {
             return Err(fault);
@@ -156,7 +165,9 @@ impl Reader {
 ///
 /// The first fault, its line numbered from 1; `NoMemory`.
 pub fn read_map(alloc: Global, topology: &Topology, text: &[u8]) -> Result<MapLines, MapFault>
-    ensures read { MatchResult result (λ m. map_of topology.now text.now ≡ Ok (record { lines = m.lines.items; names = m.names.items })) (λ e. ¬ (e ≡ MapFault.NoMemory) → map_of topology.now text.now ≡ Err e) }
+    ensures read { MatchResult result (λ m. map_of topology.now text.now
+        ≡ Ok (record { lines = m.lines.items; names = m.names.items }))
+        (λ e. ¬ (e ≡ MapFault.NoMemory) → map_of topology.now text.now ≡ Err e) }
     ensures form { IfOk result (λ m. IsMapForm topology.now.market m.lines.items m.names.items) }
 {
     let mut reader = Reader::new(alloc);

@@ -24,7 +24,9 @@ pub struct Three<'a> {
 
 /// The words of a line, where they are three. One space stands between two words.
 pub fn three_words(line: &[u8]) -> Option<Three<'_>>
-    ensures { MatchOption result (three_of (parts 32 line.now) ≡ None) (λ w. three_of (parts 32 line.now) ≡ Some (record { keyword = w.keyword.now; group = w.group.now; pool = w.pool.now })) }
+    ensures { MatchOption result (three_of (parts 32 line.now)
+        ≡ None) (λ w. three_of (parts 32 line.now)
+        ≡ Some (record { keyword = w.keyword.now; group = w.group.now; pool = w.pool.now })) }
 {
     let (keyword, rest) = cut(line, b' ')?;
     let (group, pool) = cut(rest, b' ')?;
@@ -40,7 +42,15 @@ pub fn three_words(line: &[u8]) -> Option<Three<'_>>
 
 /// The words of a line, where they are four. One space stands between two words.
 pub fn four_words(line: &[u8]) -> Option<Words<'_>>
-    ensures { MatchOption result (four_of (parts 32 line.now) ≡ None) (λ w. four_of (parts 32 line.now) ≡ Some (record { keyword = w.keyword.now; group = w.group.now; pool = w.pool.now; last = w.last.now })) }
+    ensures { MatchOption result (four_of (parts 32 line.now)
+        ≡ None) (λ w. four_of (parts 32 line.now)
+        ≡ Some (record {
+          keyword = w.keyword.now;
+          group = w.group.now;
+          pool = w.pool.now;
+          last =
+              w.last.now;
+        })) }
 {
     let (keyword, rest) = cut(line, b' ')?;
     let (group, rest) = cut(rest, b' ')?;

@@ -18,7 +18,8 @@ use topology_text::Topology;
 /// The name of the pool of an offer.
 pub fn pool_name(topology: &Topology, offer: Offer) -> &[u8]
     requires { IsOffer topology.now.market offer.group.0 offer.place }
-    ensures { result.now ≡ name_at topology.now.node_names (pool_of topology.now.market offer.group.0 offer.place) }
+    ensures { result.now ≡ name_at topology.now.node_names
+        (pool_of topology.now.market offer.group.0 offer.place) }
 {
     let pool = topology.instance().pool_at(offer);
     topology.node_name(pool)
@@ -33,7 +34,8 @@ fn push_row(
     pool: &Word,
     last: &Word,
 ) -> Result<(), NoMemory>
-    ensures { IfOk result (λ _. text.new.items ≡ text.old.items ++ ended (four keyword.now group.now pool.now last.now)) }
+    ensures { IfOk result (λ _. text.new.items ≡ text.old.items
+        ++ ended (four keyword.now group.now pool.now last.now)) }
 {
     row.clear();
     row.add(keyword, b' ');
@@ -52,7 +54,8 @@ fn push_three(
     group: &Word,
     pool: &Word,
 ) -> Result<(), NoMemory>
-    ensures { IfOk result (λ _. text.new.items ≡ text.old.items ++ ended (three keyword.now group.now pool.now)) }
+    ensures { IfOk result (λ _. text.new.items ≡ text.old.items
+        ++ ended (three keyword.now group.now pool.now)) }
 {
     row.clear();
     row.add(keyword, b' ');
@@ -73,7 +76,8 @@ fn push_place(
     requires words { HasWords topology.now lexicon.now }
     requires own { IsOwnWord topology.now own.old }
     requires offer { IsOffer topology.now.market line.group.0 line.place }
-    ensures text { IfOk result (λ _. text.new.items ≡ text.old.items ++ ended (place_row topology.now line)) }
+    ensures text { IfOk result (λ _. text.new.items ≡ text.old.items
+        ++ ended (place_row topology.now line)) }
     ensures fits { line.amount < 2 ^ 32 }
     ensures own { IsOwnWord topology.now own.new }
 {
@@ -101,7 +105,8 @@ fn push_name(
     requires own { IsOwnWord topology.now own.old }
     requires offer { IsOffer topology.now.market name.group.0 name.place }
     requires by { IsTrue (is_by topology.now.market name.by) }
-    ensures text { IfOk result (λ _. text.new.items ≡ text.old.items ++ ended (name_row topology.now name)) }
+    ensures text { IfOk result (λ _. text.new.items ≡ text.old.items
+        ++ ended (name_row topology.now name)) }
     ensures own { IsOwnWord topology.now own.new }
 {
     let NameLine { group, place, by } = name;
@@ -125,7 +130,8 @@ pub fn push_places(
 ) -> Result<(), NoMemory>
     requires words { HasWords topology.now lexicon.now }
     requires offers { AreOffers topology.now.market lines.now }
-    ensures text { IfOk result (λ _. text.new.items ≡ text.old.items ++ flat_map (λ x. ended (place_row topology.now x)) lines.now) }
+    ensures text { IfOk result (λ _. text.new.items ≡ text.old.items
+        ++ flat_map (λ x. ended (place_row topology.now x)) lines.now) }
     ensures fits { IfOk result (λ _. All (λ x. x.amount < 2 ^ 32) lines.now) }
 {
     let mut row = Row::new();
@@ -145,7 +151,8 @@ pub fn push_names(
 ) -> Result<(), NoMemory>
     requires words { HasWords topology.now lexicon.now }
     requires named { AreNamed topology.now.market names.now }
-    ensures { IfOk result (λ _. text.new.items ≡ text.old.items ++ flat_map (λ x. ended (name_row topology.now x)) names.now) }
+    ensures { IfOk result (λ _. text.new.items ≡ text.old.items
+        ++ flat_map (λ x. ended (name_row topology.now x)) names.now) }
 {
     let mut row = Row::new();
     let mut own = GroupWord::new();

@@ -6,8 +6,8 @@ use Rattle.map_model.specs.declared.lines.MapLine.{MapLine}
 use Rattle.map_model.specs.declared.lines.NameLine.{NameLine}
 use Rattle.map_model.specs.Market.{Market, IsMarket}
 use Rattle.map_model.specs.Allocation.{names_of}
-use Rattle.agree_laws.proofs.Applied.{applied_one}
-use Rattle.agree_laws.proofs.Ends.{group_best_one}
+use Rattle.map_laws.proofs.Applied.{applied_one}
+use Rattle.map_laws.proofs.Ends.{group_best_one}
 use Rattle.map_repair.specs.Determined.{IsRepairedOf}
 use Rattle.map_repair.proofs.Agree.{repaired_of_one}
 use Rattle.topology_text.specs.Plan.{Plan}

@@ -2,23 +2,21 @@
 use Rattle.std.proofs.Common.{◌≡◌, ◌≢◌, ◌⊎◌, inl, inr, ℕ, List, [], ◌∷◌, ◌++◌, append_assoc, append-nil, refl, ap, sym, subst, ◌∙◌}
 use Rattle.std.specs.Prelude.{Option}
 use Rattle.outside.specs.Faults.{BothTell}
-use Rattle.outside.specs.Pace.{IsPaced}
 use Rattle.outside.specs.Sink.{IsPut, Written}
 use Rattle.outside.specs.declared.pace.PaceCall.{PaceCall}
-use Rattle.outside.specs.declared.pace.PaceCall.TheVariants.{Before}
 use Rattle.outside.specs.declared.sink.Put.{Put}
 use Rattle.outside.specs.declared.sink.Put.TheVariants as put
 use Rattle.map_model.specs.declared.change.Change.{Change}
 use Rattle.published_map.specs.Version.{Version}
 use Rattle.mapper.specs.Words.{map_text}
 use Rattle.mapper.specs.Texts as text
-use Rattle.mapper.specs.Control.{Course, IsNext, before_commit, start, with_line}
-use Rattle.mapper.specs.Items.{CommitWorks, with_marked, with_published}
+use Rattle.mapper.specs.Control.{Course, IsNext, start, with_line}
+use Rattle.mapper.specs.Items.{CommitWorks, with_published}
 use Rattle.mapper.specs.Texts.{marked}
 use Rattle.mapper.specs.Scenes.{IsAt, IsCutInMaps, IsCutInOut, IsPrinted, Scene, scene}
 use Rattle.mapper.specs.Coming.{BothPut, Came}
 use Rattle.demand_feed.proofs.Tellings.{tell_self}
-use Rattle.mapper.proofs.Tellings.{paced_none, paced_trans, printed_cut, printed_more, printed_none}
+use Rattle.mapper.proofs.Tellings.{paced_none, printed_cut, printed_more, printed_none}
 
 -- a put of a line
 pub said_at : (result : Put) (before : Scene) (base c : Course) (v : Version) (h : List Version) (out o maps : Option Written) (pace : Option (List PaceCall)) (line : List ℕ)
@@ -91,17 +89,6 @@ published_at mark put.Failed before base c changes v w h k out o maps m pace eo 
       maps = rw em (printed_cut c.maps (map_text w) before.maps maps m at.maps q.0);
     })
 
--- the pace is called ahead of a commit line
-pub paced_at : (before : Scene) (c : Course) (v : Version) (h : List Version) (out maps : Option Written) (pace p : Option (List PaceCall)) (serial : ℕ)
-    → IsAt before c (scene v h out maps pace) → serial ≡ v.serial → IsPaced (Before serial ∷ []) pace p → IsAt before (before_commit c) (scene v h out maps p)
-paced_at before c v h out maps pace p serial at is call = record {
-  newest = at.newest;
-  history = at.history;
-  out = at.out;
-  maps = at.maps;
-  pace = paced_trans c.calls (Before c.newest.serial ∷ []) before.pace pace p at.pace (subst (λ n. IsPaced (Before n ∷ []) pace p) (is ∙ ap (λ (x : Version). x.serial) at.newest) call);
-}
-
 -- ahead of all lines
 pub starts_at : (s : Scene) → IsAt s (start s.newest) s
 starts_at s = record {
@@ -121,8 +108,3 @@ came_map put.Failed before base To Via s f (d, to, at) = (d, f d to, at)
 pub came_done : (result : Put) (before : Scene) (base : Course) (To : Course → Type 0) (s : Scene) → result ≢ put.Failed → Came result before base To s → (d : Course) × To d × IsAt before d s
 came_done put.Done before base To s whole h = h
 came_done put.Failed before base To s whole h = absurd (whole refl)
-
--- a put of a line that speaks of the newest version
-pub speaks_at : (mark : Option ℕ) (line : Version → List ℕ) (result : Put) (before : Scene) (base c : Course) (v : Version) (h : List Version) (out o maps : Option Written) (pace : Option (List PaceCall))
-    → base.out ≡ c.out → base.maps ≡ c.maps → IsAt before c (scene v h out maps pace) → BothTell out o (IsPut result (marked mark (line v))) → Came result before base (λ d. d ≡ with_marked mark c (line c.newest)) (scene v h o maps pace)
-speaks_at mark line result before base c v h out o maps pace eo em at p = said_at result before base c v h out o maps pace (marked mark (line c.newest)) eo em at (subst (λ w. BothTell out o (IsPut result (marked mark (line w)))) at.newest p)

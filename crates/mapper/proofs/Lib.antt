@@ -1,7 +1,7 @@
 pub mod Tellings
 pub mod Courses
 pub mod Chains
-mod Together
+pub mod Together
 mod Followed
 pub mod Counted
 pub mod Fresh
@@ -12,4 +12,4 @@ pub mod Marks
 pub mod Merging
 pub mod Giving
 pub mod Several
-pub mod Working
+mod Taking

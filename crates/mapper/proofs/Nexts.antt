@@ -16,7 +16,7 @@ use Rattle.published_map.specs.Version.{IsVersion, Version}
 use Rattle.published_map.proofs.Within.{after_is_version, within}
 use Rattle.map_cell.specs.Ends.{PublisherState}
 use Rattle.map_cell.specs.Histories.{IsSealed}
-use Rattle.agree_laws.proofs.Applied.{applied_one}
+use Rattle.map_laws.proofs.Applied.{applied_one}
 use Rattle.mapper.specs.Control.{IsNext}
 use Rattle.mapper.specs.Currents.{IsCurrent, IsKeptFor, IsPrepared, IsWritten, Makes, version_of}
 use Rattle.mapper.specs.Mappers.{IsPublished}
@@ -61,6 +61,10 @@ led P v old new d current between p =
 get_last : (h : List Version) (v : Version) → slice_get (h ++ v ∷ []) (length h) ≡ Some v
 get_last [] v = refl
 get_last (x ∷ xs) v = get_last xs v
+
+-- a history with one version more
+pub one_longer : (h k : List Version) (w : Version) → k ≡ h ++ w ∷ [] → length k ≡ length h + 1
+one_longer h k w e = ap length e ∙ length-append h (w ∷ [])
 
 -- the next version is the last of the history that it is added to
 pub sealed_next : (h : List Version) (v w : Version) → IsSealed h v → w.serial ≡ v.serial + 1 → IsSealed (h ++ w ∷ []) w

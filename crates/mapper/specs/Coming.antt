@@ -5,13 +5,8 @@ use Rattle.outside.specs.Sink.{IsPut, Written}
 use Rattle.outside.specs.declared.sink.Put.{Put}
 use Rattle.outside.specs.declared.sink.Put.TheVariants as put
 use Rattle.demand_feed.specs.Task.{Task}
-use Rattle.demand_feed.specs.declared.clerk.Next.{Next}
-use Rattle.demand_feed.specs.declared.clerk.Next.TheVariants as next
-use Rattle.published_map.specs.Version.{Version}
 use Rattle.mapper.specs.Control.{Comes, Course}
 use Rattle.mapper.specs.Scenes.{IsAt, IsCutAt, Scene}
-use Rattle.mapper.specs.Texts as text
-use Rattle.mapper.specs.Words.{reply_by, totals_of}
 
 -- a course came to another one, which is what is told, unless a put failed on the way
 abbrev pub Came : Put → Scene → Course → (Course → Type 0) → Scene → Type 0
@@ -26,26 +21,10 @@ BothPut put.Failed text line maps_before maps_after out_before out_after =
     (BothTell maps_before maps_after (IsPut put.Done text) × BothTell out_before out_after (IsPut put.Failed line))
     ⊎ (BothTell maps_before maps_after (IsPut put.Failed text) × (out_after ≡ out_before))
 
--- the line of control text of a task that is no batch, over the newest version
-abbrev pub line_for : Version → Next → Option (List ℕ)
-line_for v (next.Refused number why) = Some (text.refused number why)
-line_for v next.Empty = Some (text.published v.serial)
-line_for v (next.Spoiled lines) = Some (text.spoiled lines)
-line_for v (next.Query addr octets) = Some (text.answer v.serial (reply_by v addr octets.items))
-line_for v next.Totals = Some (text.show v.serial (totals_of v))
-line_for v next.Nothing = None
-line_for v next.Stop = None
-line_for v next.Batch = None
-
 -- what comes of a line, if anything
 abbrev pub ComesOf : Option Task → Course → Course → Type 0
 ComesOf None c d = d ≡ c
 ComesOf (Some task) c d = Comes task c d
-
--- a line was put, if there is one
-abbrev pub PutIf : Option (List ℕ) → Put → Option Written → Option Written → Type 0
-PutIf None result before after = (result ≡ put.Done) × (after ≡ before)
-PutIf (Some line) result before after = BothTell before after (IsPut result line)
 
 -- from whatever course is told, a task leads to another one, which is then told
 abbrev pub Does : Task → Scene → Scene → Type 0

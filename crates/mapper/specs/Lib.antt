@@ -7,7 +7,9 @@ pub mod Currents
 pub mod Scenes
 pub mod Feeding
 pub mod Coming
-pub mod Runners
+pub mod Deeds
+pub mod Lending
+pub mod Desks
 pub mod Notes
 pub mod Laws
 pub mod Items

@@ -1,8 +1,8 @@
--- Notes of versions, in a row of cells.
-use Rattle.std.specs.Prelude.{◌≡◌, ℕ, ◌<◌, List, Option, Some, slice_get}
+-- Of which versions the row of notes tells.
+use Rattle.std.specs.Prelude.{ℕ, ◌<◌, List, length}
 use Rattle.outside.specs.Limits.{most_notes}
-use Rattle.map_cell.specs.Rows.{KeptState}
+use Rattle.published_map.specs.Version.{Version}
 
--- the cell of that serial is shown to hold a note, if it is one of those of which a run tells
-abbrev pub IsToldOf : ℕ → List ℕ → Option KeptState → Type 0
-IsToldOf serial cells shown = serial < most_notes → (kept : KeptState) × (shown ≡ Some kept) × (slice_get cells serial ≡ Some kept.cell)
+-- each of these versions whose serial has a cell in the row is among the first so many, of which the row tells
+abbrev pub AreTold : List Version → ℕ → Type 0
+AreTold history count = (serial : ℕ) → serial < length history → serial < most_notes → serial < count

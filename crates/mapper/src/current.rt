@@ -1,5 +1,6 @@
 //! A map with what goes with it, and the one that follows it by a batch.
 ghost use Rattle.std.specs.Prelude.{◌≡◌, ◌+◌, ◌≤◌, ℕ, List, IfOk, IfSome, OnOk};
+ghost use Rattle.map_model.specs.declared.change.Change.{Change};
 ghost use Rattle.map_model.specs.declared.lines.MapLine.{MapLine};
 ghost use Rattle.map_model.specs.Market.{IsSameShape, Market};
 ghost use Rattle.map_model.specs.Allocation.{IsGood, IsMapForm};
@@ -20,7 +21,7 @@ use deferred_accept::{ended_map, run};
 use demand_feed::{Batch, apply};
 use evict::State;
 use map_model::{Instance, MapLines, Steps};
-use map_repair::resume;
+use map_repair::{Change, resume};
 use map_text::{Cuts, Written, write_after, write_first};
 use move_up::Asked;
 use no_memory::NoMemory;
@@ -73,15 +74,21 @@ pub(crate) fn applied(instance: Instance, batch: &Batch) -> Instance
     instance
 }
 
-/// Another instance that is the same: the spare one, if there is one.
-fn another(old: &Instance, spare: Option<Instance>) -> Result<Instance, NoMemory>
-    requires { IfSome spare (λ s. s ≡ old.now) }
-    ensures { IfOk result (λ new. new ≡ old.now) }
+/// An instance after a batch, made of the spare one, which is the same, or of a copy.
+pub(crate) fn after_batch(
+    old: &Instance,
+    spare: Option<Instance>,
+    batch: &Batch,
+) -> Result<Instance, NoMemory>
+    requires spare { IfSome spare (λ s. s ≡ old.now) }
+    requires ids { IsBatch old.now batch.now }
+    ensures { IfOk result (λ new. IsApplied old.now batch.now new) }
 {
-    match spare {
-        Some(spare) => Ok(spare),
-        None => old.try_clone(),
-    }
+    let other = match spare {
+        Some(spare) => spare,
+        None => old.try_clone()?,
+    };
+    Ok(applied(other, batch))
 }
 
 /// Takes out the offers of an instance by the trees of their pools, or lists them where that was not done.
@@ -126,15 +133,13 @@ fn repaired<L>(
 {
     let before = steps.count();
     let asked = take_asked(alloc, &old.instance, &kept.state, &mut kept.asked)?;
-    let effort = resume(
-        alloc,
-        &old.instance,
-        &old.map,
+    let change = Change {
+        old: &old.instance,
+        map: &old.map,
         new,
-        &asked,
-        &mut kept.state,
-        steps,
-    )?;
+        asked: &asked,
+    };
+    let effort = resume(alloc, &change, &mut kept.state, steps)?;
     kept.asked = Some(asked);
     // the state of a try in vain is gone
     let proposals = (steps.count() - before).saturating_sub(effort.thrown);
@@ -266,23 +271,22 @@ pub(crate) fn kept_of(alloc: Global, current: &Current) -> Result<Kept, NoMemory
     })
 }
 
-/// The map that a batch leads to, on a spare instance that is the old one, if there is one.
+/// The map of the next instance, by repair of the kept state.
 pub(crate) fn next_of<L>(
     alloc: Global,
     topology: &Topology,
     old: &Current,
     kept: &mut Kept,
-    spare: Option<Instance>,
-    batch: &Batch,
+    instance: Instance,
     steps: &mut Steps<L>,
 ) -> Result<Current, NoMemory>
     requires kept { IsKeptFor old.now.instance old.now.map.lines.items kept.old }
-    requires spare { IfSome spare (λ s. s ≡ old.now.instance) }
     requires good { IsGood old.now.instance old.now.map.lines.items old.now.map.names.items }
-    requires ids { IsBatch old.now.instance batch.now }
-    requires shape { IsSameShape topology.now.market old.now.instance }
+    requires shape { IsSameShape topology.now.market old.now.instance
+        × IsSameShape old.now.instance instance }
     requires written { IsWritten topology.now old.now }
-    ensures makes { IfOk result (Makes topology.now old.now batch.now) }
+    ensures makes { (changes : List Change) → IsApplied old.now.instance changes instance
+        → IfOk result (Makes topology.now old.now changes) }
     ensures kept { IfOk result (λ c. IsKeptFor c.instance c.map.lines.items kept.new) }
     ensures counted { IfOk result (λ c. HasRepaired
         old.now.instance old.now.map.lines.items c.instance c.map.lines.items steps.old steps.new) }
@@ -290,8 +294,6 @@ pub(crate) fn next_of<L>(
         old.now.instance old.now.map.lines.items c.instance steps.old steps.new) }
     ensures later { steps.old ≤ steps.new }
 {
-    let other = another(&old.instance, spare)?;
-    let instance = applied(other, batch);
     // tells the prover what the type keeps
     let _groups = instance.groups();
     let map = repaired(alloc, old, &instance, kept, steps)?;

@@ -1,63 +1,51 @@
 //! A run over the items of several feeders.
-ghost use Rattle.std.specs.Prelude.{IsTrue, ◌↔◌, ◌≡◌, ◌≢◌, ◌⊎◌, ◌<◌, ◌≤◌, ◌+◌, ◌-◌, ◌^◌, ◌∷◌, ◌++◌, [], ℕ, List, length};
+ghost use Rattle.std.specs.Prelude.{IsTrue, ◌↔◌, ◌≡◌, ◌≢◌, ◌<◌, ◌≤◌, ◌+◌, ◌-◌, ◌^◌, ◌++◌, [], ℕ, List, length};
 ghost use mathlib.Core.List.{IsPrefix};
-ghost use Rattle.outside.specs.Faults.{Rose};
 ghost use Rattle.demand_feed.specs.declared.sent.Item.{Item};
 ghost use Rattle.feed_queue.specs.Items.{batches, whats_of};
+ghost use Rattle.mapper.specs.Desks.{IsWhole, Keeps, desk_told};
 ghost use Rattle.mapper.specs.Feeds.{AllWorked, AreFeeds, HasMerged, WorkWasCut};
+ghost use Rattle.mapper.specs.Lending.{HasFault};
 ghost use Rattle.mapper.specs.Noting.{AreNoted};
-ghost use Rattle.mapper.specs.Scenes.{Scene, scene};
+ghost use Rattle.mapper.specs.Scenes.{Scene};
 
-use crate::Spoken;
+use crate::deed::deed_of_item;
+use crate::desk::Desk;
 use crate::ends::Ends;
-use crate::items::work;
-use crate::mapping::Mapping;
 use demand_feed::FeedEnd;
 use feed_queue::{Numbers, Taker};
+use map_cell::Naming;
 use outside::{Pace, Put, Sink};
 use std::sync::Wait;
 
 /// Takes the next item and does what it asks for, or waits for one where there is none.
-#[tactic(auto, using(crate::proofs::Several::cut_next))]
-fn work_next<R: Wait, X: Mapping, N: Numbers, K: Sink, M: Pace>(
-    rt: &R,
-    mapper: &mut X,
+fn work_next<R: Wait, J: Naming, N: Numbers, K: Sink, M: Pace>(
+    desk: &mut Desk<'_, '_, '_, '_, '_, '_, R, J, K, M>,
     taker: &mut Taker<N>,
-    line: &mut Spoken,
     ends: &mut Ends,
-    out: &mut K,
-    maps: &mut K,
-    pace: &mut M,
 ) -> Put
-    requires groups { length (X.newest mapper.old).plan.market.groups ≡ N.groups }
-    requires nodes { length (X.newest mapper.old).plan.market.nodes ≡ N.nodes }
-    requires serial { (X.newest mapper.old).serial < 2 ^ 64 - 1 }
+    requires groups { length desk.old.published.now.newest.plan.market.groups ≡ N.groups }
+    requires nodes { length desk.old.published.now.newest.plan.market.nodes ≡ N.nodes }
+    requires serial { desk.old.published.now.newest.serial < 2 ^ 64 - 1 }
     requires noted { AreNoted taker.old.taken ends.old }
     requires few { ends.old.count < 4 }
     ensures queue { (taker.new.queue ≡ taker.old.queue) × (taker.new.feeders ≡ taker.old.feeders) }
     ensures noted { AreNoted taker.new.taken ends.new }
     ensures count { ends.new.count ≤ ends.old.count + 1 }
     ensures goes_on { result ≢ Put.Failed
-        → (before : Scene) → AllWorked taker.old.taken before (scene (X.newest mapper.old)
-        (X.history mapper.old) (K.told out.old).past (K.told maps.old).past (M.told pace.old).past)
-        → AllWorked taker.new.taken before (scene (X.newest mapper.new) (X.history mapper.new)
-        (K.told out.new).past (K.told maps.new).past (M.told pace.new).past) }
+        → (before : Scene) → AllWorked taker.old.taken before (desk_told K.told M.told desk.old)
+        → AllWorked taker.new.taken before (desk_told K.told M.told desk.new) }
     ensures broken { result ≡ Put.Failed
-        → (before : Scene) → AllWorked taker.old.taken before (scene (X.newest mapper.old)
-        (X.history mapper.old) (K.told out.old).past (K.told maps.old).past (M.told pace.old).past)
-        → WorkWasCut taker.new.taken before (scene (X.newest mapper.new) (X.history mapper.new)
-        (K.told out.new).past (K.told maps.new).past (M.told pace.new).past) }
-    ensures serial { (n : ℕ) → (X.newest mapper.old).serial ≤ n + batches (whats_of taker.old.taken)
-        → (X.newest mapper.new).serial ≤ n + batches (whats_of taker.new.taken) }
-    ensures plan { (X.newest mapper.new).plan ≡ (X.newest mapper.old).plan }
-    ensures lent { X.lent mapper.new ≡ X.lent mapper.old }
-    ensures later { ((K.told out.old).faults ≤ (K.told out.new).faults)
-        × ((K.told maps.old).faults ≤ (K.told maps.new).faults) }
-    ensures cause { result ≡ Put.Failed → Rose (K.told out.old).faults (K.told out.new).faults
-        ⊎ Rose (K.told maps.old).faults (K.told maps.new).faults }
-    ensures stays { result ≢ Put.Failed → ((K.told out.new).faults ≡ (K.told out.old).faults)
-        × ((K.told maps.new).faults ≡ (K.told maps.old).faults) }
+        → (before : Scene) → AllWorked taker.old.taken before (desk_told K.told M.told desk.old)
+        → WorkWasCut taker.new.taken before (desk_told K.told M.told desk.new) }
+    ensures serial { (n : ℕ)
+        → desk.old.published.now.newest.serial ≤ n + batches (whats_of taker.old.taken)
+        → desk.new.published.now.newest.serial ≤ n + batches (whats_of taker.new.taken) }
+    ensures keeps { Keeps K.told desk.old desk.new }
+    ensures cause { result ≡ Put.Failed → HasFault K.told desk.old.to desk.new.to }
+    ensures stays { result ≢ Put.Failed → IsWhole K.told desk.old desk.new }
 {
+    let rt = desk.rt;
     match taker.next(rt) {
         None => {
             taker.wait(rt);
@@ -65,7 +53,8 @@ fn work_next<R: Wait, X: Mapping, N: Numbers, K: Sink, M: Pace>(
         }
         Some(item) => {
             ends.note(&item.what);
-            work(rt, mapper, line, item.feeder, &item.what, out, maps, pace)
+            let deed = deed_of_item(desk.published, &item.what);
+            desk.work(Some(item.feeder), &deed)
         }
     }
 }
@@ -78,46 +67,33 @@ fn has_failed(put: Put) -> bool
 
 /// Works items until each feeder has ended, or a put fails.
 #[tactic(auto, using(crate::proofs::Several::all_none))]
-fn work_all<R: Wait, X: Mapping, N: Numbers, K: Sink, M: Pace>(
-    rt: &R,
-    mapper: &mut X,
+fn work_all<R: Wait, J: Naming, N: Numbers, K: Sink, M: Pace>(
+    desk: &mut Desk<'_, '_, '_, '_, '_, '_, R, J, K, M>,
     taker: &mut Taker<N>,
-    line: &mut Spoken,
     ends: &mut Ends,
-    out: &mut K,
-    maps: &mut K,
-    pace: &mut M,
 ) -> Put
-    requires groups { length (X.newest mapper.old).plan.market.groups ≡ N.groups }
-    requires nodes { length (X.newest mapper.old).plan.market.nodes ≡ N.nodes }
-    requires serial { (X.newest mapper.old).serial < 2 ^ 63 }
+    requires groups { length desk.old.published.now.newest.plan.market.groups ≡ N.groups }
+    requires nodes { length desk.old.published.now.newest.plan.market.nodes ≡ N.nodes }
+    requires serial { desk.old.published.now.newest.serial < 2 ^ 63 }
     requires unused { taker.old.taken ≡ [] }
     requires noted { AreNoted [] ends.old }
     ensures queue { (taker.new.queue ≡ taker.old.queue) × (taker.new.feeders ≡ taker.old.feeders) }
     ensures noted { AreNoted taker.new.taken ends.new }
     ensures count { ends.new.count ≤ taker.new.feeders }
-    ensures done { result ≡ Put.Done → AllWorked taker.new.taken (scene (X.newest mapper.old)
-        (X.history mapper.old) (K.told out.old).past (K.told maps.old).past (M.told pace.old).past)
-        (scene (X.newest mapper.new) (X.history mapper.new) (K.told out.new).past
-        (K.told maps.new).past (M.told pace.new).past) × (ends.new.count ≡ taker.new.feeders) }
-    ensures failed { result ≡ Put.Failed → WorkWasCut taker.new.taken (scene (X.newest mapper.old)
-        (X.history mapper.old) (K.told out.old).past (K.told maps.old).past (M.told pace.old).past)
-        (scene (X.newest mapper.new) (X.history mapper.new)
-        (K.told out.new).past (K.told maps.new).past (M.told pace.new).past) }
-    ensures plan { (X.newest mapper.new).plan ≡ (X.newest mapper.old).plan }
-    ensures lent { X.lent mapper.new ≡ X.lent mapper.old }
-    ensures later { ((K.told out.old).faults ≤ (K.told out.new).faults)
-        × ((K.told maps.old).faults ≤ (K.told maps.new).faults) }
-    ensures cause { result ≡ Put.Failed → Rose (K.told out.old).faults (K.told out.new).faults
-        ⊎ Rose (K.told maps.old).faults (K.told maps.new).faults }
-    ensures stays { result ≢ Put.Failed → ((K.told out.new).faults ≡ (K.told out.old).faults)
-        × ((K.told maps.new).faults ≡ (K.told maps.old).faults) }
+    ensures done { result ≡ Put.Done → AllWorked taker.new.taken
+        (desk_told K.told M.told desk.old) (desk_told K.told M.told desk.new)
+        × (ends.new.count ≡ taker.new.feeders) × IsWhole K.told desk.old desk.new }
+    ensures failed { result ≡ Put.Failed → WorkWasCut taker.new.taken
+        (desk_told K.told M.told desk.old) (desk_told K.told M.told desk.new)
+        × HasFault K.told desk.old.to desk.new.to }
+    ensures keeps { Keeps K.told desk.old desk.new }
 {
+    let rt = desk.rt;
     for _ in rt.forever() {
         if ends.count == u64::from(taker.feeders()) {
             return Put::Done;
         }
-        let put = work_next(rt, mapper, taker, line, ends, out, maps, pace);
+        let put = work_next(desk, taker, ends);
         if has_failed(put) {
             return Put::Failed;
         }
@@ -160,48 +136,36 @@ fn drop_next<R: Wait, N: Numbers>(rt: &R, taker: &mut Taker<N>, ends: &mut Ends)
 
 /// Works the items of several feeders, from the newest map on, until each feeder's end was taken, and then tells the pace
 /// that all have ended. Behind a put that failed items are taken and dropped.
-pub(crate) fn run_feeds<R: Wait, X: Mapping, N: Numbers, K: Sink, M: Pace>(
-    rt: &R,
-    mapper: &mut X,
+pub(crate) fn run_feeds<R: Wait, J: Naming, N: Numbers, K: Sink, M: Pace>(
+    desk: &mut Desk<'_, '_, '_, '_, '_, '_, R, J, K, M>,
     taker: &mut Taker<N>,
-    out: &mut K,
-    maps: &mut K,
-    pace: &mut M,
 ) -> FeedEnd
-    requires groups { length (X.newest mapper.old).plan.market.groups ≡ N.groups }
-    requires nodes { length (X.newest mapper.old).plan.market.nodes ≡ N.nodes }
-    requires serial { (X.newest mapper.old).serial < 2 ^ 63 }
+    requires groups { length desk.old.published.now.newest.plan.market.groups ≡ N.groups }
+    requires nodes { length desk.old.published.now.newest.plan.market.nodes ≡ N.nodes }
+    requires serial { desk.old.published.now.newest.serial < 2 ^ 63 }
     requires unused { taker.old.taken ≡ [] }
     ensures queue { (taker.new.queue ≡ taker.old.queue) × (taker.new.feeders ≡ taker.old.feeders) }
-    ensures run { AreFeeds taker.old.feeders result taker.new.taken (scene (X.newest mapper.old)
-        (X.history mapper.old) (K.told out.old).past (K.told maps.old).past (M.told pace.old).past)
-        (scene (X.newest mapper.new) (X.history mapper.new)
-        (K.told out.new).past (K.told maps.new).past (M.told pace.new).past) }
-    ensures merged { result ≢ FeedEnd.SinkFault → HasMerged
-        taker.new.taken (scene (X.newest mapper.old) (X.history mapper.old) (K.told out.old).past
-        (K.told maps.old).past (M.told pace.old).past) (scene (X.newest mapper.new) (X.history
-        mapper.new) (K.told out.new).past (K.told maps.new).past (M.told pace.new).past) }
-    ensures kept { IsPrefix (X.history mapper.old) (X.history mapper.new) }
-    ensures plan { (X.newest mapper.new).plan ≡ (X.newest mapper.old).plan }
-    ensures lent { X.lent mapper.new ≡ X.lent mapper.old }
-    ensures later { ((K.told out.old).faults ≤ (K.told out.new).faults)
-        × ((K.told maps.old).faults ≤ (K.told maps.new).faults) }
-    ensures sink { result ≡ FeedEnd.SinkFault → Rose (K.told out.old).faults (K.told out.new).faults
-        ⊎ Rose (K.told maps.old).faults (K.told maps.new).faults }
-    ensures sink_stays { result ≢ FeedEnd.SinkFault → ((K.told out.new).faults
-        ≡ (K.told out.old).faults) × ((K.told maps.new).faults ≡ (K.told maps.old).faults) }
+    ensures run { AreFeeds taker.old.feeders result taker.new.taken
+        (desk_told K.told M.told desk.old) (desk_told K.told M.told desk.new) }
+    ensures merged { result ≢ FeedEnd.SinkFault → HasMerged taker.new.taken
+        (desk_told K.told M.told desk.old) (desk_told K.told M.told desk.new) }
+    ensures kept { IsPrefix desk.old.published.now.history desk.new.published.now.history }
+    ensures keeps { Keeps K.told desk.old desk.new }
+    ensures sink { result ≡ FeedEnd.SinkFault → HasFault K.told desk.old.to desk.new.to }
+    ensures whole { result ≢ FeedEnd.SinkFault → IsWhole K.told desk.old desk.new }
 {
-    let mut line = Spoken::new();
+    let rt = desk.rt;
     let mut ends = Ends::new();
-    let put = work_all(rt, mapper, taker, &mut line, &mut ends, out, maps, pace);
-    match put {
+    match work_all(desk, taker, &mut ends) {
         Put::Done => {
-            pace.done(mapper.serial());
+            let newest = desk.published.serial();
+            desk.to.pace.done(newest);
             ends.first()
         }
         Put::Failed => {
             drain(rt, taker, &mut ends);
-            pace.done(mapper.serial());
+            let newest = desk.published.serial();
+            desk.to.pace.done(newest);
             FeedEnd::SinkFault
         }
     }

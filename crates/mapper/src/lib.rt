@@ -2,19 +2,21 @@
 #![tactic(auto)]
 
 mod adding;
-mod come;
 mod current;
+mod deed;
+mod desk;
 mod ends;
+mod feed;
 mod feeds;
-mod items;
 mod laws;
 mod mapper;
-mod mapping;
 mod maps;
-mod noted;
-mod runner;
+mod outputs;
 mod saying;
+mod told;
 
 pub use laws::{batches_are_given, courses_agree, texts_are_merged, versions_agree};
 pub use mapper::Mapper;
+pub use outputs::Outputs;
 pub use saying::{LINE_ROOM, Saying, Spoken, Totals, write_saying};
+pub use told::Told;

@@ -17,15 +17,16 @@ ghost use Rattle.mapper.specs.Currents.{IsCurrent, IsKeptFor, version_of};
 ghost use Rattle.mapper.specs.Feeding.{IsFeed};
 ghost use Rattle.mapper.specs.Feeds.{AreFeeds, HasMerged};
 ghost use Rattle.mapper.specs.Mappers.{IsFirst, IsMapping, IsPublished, IsRepairing, most_offers};
-ghost use Rattle.mapper.specs.Scenes.{scene};
+ghost use Rattle.mapper.specs.Lending.{HasFault, HasNoFault, HasNoLess, IsSameLent, told_by};
+ghost use Rattle.mapper.specs.Notes.{AreTold};
 ghost use Rattle.mapper.specs.Words.{map_text, reply_by, totals_of};
 
-use crate::Totals;
 use crate::current::{First, first_of};
+use crate::desk::Desk;
+use crate::feed::run_feed;
 use crate::feeds::run_feeds;
 use crate::maps::Maps;
-use crate::noted::Noted;
-use crate::runner::run_feed;
+use crate::{Outputs, Spoken, Totals};
 use addr_text::Addr;
 use answer_core::Answer;
 use arrayvec::ArrayVec;
@@ -237,16 +238,14 @@ impl<J: Naming> Mapper<J> {
     pub fn text(&self) -> &[u8]
         ensures { result.now ≡ map_text self.now.newest }
     {
-        let current = self.maps.current();
-        current.text.as_slice()
+        self.maps.text()
     }
 
     /// The totals of the newest map.
     pub fn totals(&self) -> Totals
         ensures { result ≡ totals_of self.now.newest }
     {
-        let current = self.maps.current();
-        current.totals
+        self.maps.totals()
     }
 
     /// Names the newest map, with the history up to it.
@@ -305,49 +304,48 @@ impl<J: Naming> Mapper<J> {
     /// Runs a feed to its end or for so many turns, 2^48 at most, from the newest map on, and then tells the pace that it has ended.
     ///
     /// Each map's text and each line of control text is one put, and nothing is put behind one that failed. When both
-    /// puts of a map are done, a note of it goes into the row, unless that is full.
+    /// puts of a map are done, a note of it goes into the row, unless that is full, and is counted.
     pub fn run_feed<R: Wait, S: Source, K: Sink, M: Pace>(
         &mut self,
         rt: &R,
         feed: &mut S,
-        out: &mut K,
-        maps: &mut K,
-        pace: &mut M,
+        to: &mut Outputs<'_, '_, '_, K, M>,
         row: &NoteRow<J>,
         turns: u64,
     ) -> FeedEnd
         requires turns { turns ≤ MOST_TURNS }
         requires serial { self.old.newest.serial < 2 ^ 63 }
+        ensures lent { IsSameLent to.old to.new }
         ensures run { IsFeed self.old.newest.plan turns result (S.told feed.old).past
-            (S.told feed.new).past (scene self.old.newest self.old.history (K.told out.old).past
-            (K.told maps.old).past (M.told pace.old).past) (scene self.new.newest
-            self.new.history (K.told out.new).past (K.told maps.new).past (M.told pace.new).past) }
+            (S.told feed.new).past (told_by K.told M.told self.old to.old)
+            (told_by K.told M.told self.new to.new) }
         ensures kept { IsPrefix self.old.history self.new.history }
         ensures plan { self.new.newest.plan ≡ self.old.newest.plan }
-        ensures later { ((K.told out.old).faults ≤ (K.told out.new).faults)
-            × ((K.told maps.old).faults ≤ (K.told maps.new).faults) }
-        ensures sink { result ≡ FeedEnd.SinkFault → Rose (K.told out.old).faults
-            (K.told out.new).faults ⊎ Rose (K.told maps.old).faults (K.told maps.new).faults }
-        ensures sink_stays { result ≢ FeedEnd.SinkFault → ((K.told out.new).faults
-            ≡ (K.told out.old).faults) × ((K.told maps.new).faults ≡ (K.told maps.old).faults) }
+        ensures told { result ≢ FeedEnd.SinkFault → AreTold self.old.history to.old.told
+            → AreTold self.new.history to.new.told }
+        ensures later { HasNoLess K.told to.old to.new }
+        ensures sink { result ≡ FeedEnd.SinkFault → HasFault K.told to.old to.new }
+        ensures sink_stays { result ≢ FeedEnd.SinkFault → HasNoFault K.told to.old to.new }
         ensures source { result ≡ FeedEnd.SourceFault
             → Rose (S.told feed.old).faults (S.told feed.new).faults }
         ensures source_later { (S.told feed.old).faults ≤ (S.told feed.new).faults }
         ensures source_stays { result ≢ FeedEnd.SourceFault
             → (S.told feed.new).faults ≡ (S.told feed.old).faults }
     {
-        let mut noted = Noted::new(&mut self.maps, row);
-        run_feed(
+        let mut desk = Desk::new(
             rt,
-            &self.topology,
-            &mut noted,
-            &mut self.intake,
-            feed,
-            out,
-            maps,
-            pace,
-            turns,
-        )
+            &mut self.maps,
+            row,
+            Outputs {
+                out: to.out,
+                maps: to.maps,
+                pace: to.pace,
+                told: to.told,
+            },
+        );
+        let end = run_feed(&self.topology, &mut self.intake, feed, &mut desk, turns);
+        to.told = desk.told();
+        end
     }
 
     /// Works the items of several feeders, from the newest map on, until each feeder's end was taken, and then tells the
@@ -355,42 +353,48 @@ impl<J: Naming> Mapper<J> {
     /// `SourceFault`, `Spent` and `NoMemory` by which a feed has ended, else `Ended`.
     ///
     /// Each map's text and each line of control text is one put; a line begins with its feed's number, from 1, and a space.
-    /// When both puts of a map are done, a note of it goes into the row, unless that is full. Behind a put that failed the
-    /// items that are left are taken and dropped, and nothing is published.
+    /// When both puts of a map are done, a note of it goes into the row, unless that is full, and is counted. Behind a put
+    /// that failed the items that are left are taken and dropped, and nothing is published.
     pub fn run_feeds<R: Wait, N: Numbers, K: Sink, M: Pace>(
         &mut self,
         rt: &R,
         taker: &mut Taker<N>,
-        out: &mut K,
-        maps: &mut K,
-        pace: &mut M,
+        to: &mut Outputs<'_, '_, '_, K, M>,
         row: &NoteRow<J>,
     ) -> FeedEnd
         requires groups { length self.old.newest.plan.market.groups ≡ N.groups }
         requires nodes { length self.old.newest.plan.market.nodes ≡ N.nodes }
         requires serial { self.old.newest.serial < 2 ^ 63 }
         requires unused { taker.old.taken ≡ [] }
+        ensures lent { IsSameLent to.old to.new }
         ensures queue { (taker.new.queue ≡ taker.old.queue)
             × (taker.new.feeders ≡ taker.old.feeders) }
-        ensures run { AreFeeds taker.old.feeders
-            result taker.new.taken (scene self.old.newest self.old.history (K.told out.old).past
-            (K.told maps.old).past (M.told pace.old).past) (scene self.new.newest
-            self.new.history (K.told out.new).past (K.told maps.new).past (M.told pace.new).past) }
-        ensures merged { result ≢ FeedEnd.SinkFault
-            → HasMerged taker.new.taken (scene self.old.newest self.old.history (K.told
-            out.old).past (K.told maps.old).past (M.told pace.old).past) (scene self.new.newest
-            self.new.history (K.told out.new).past (K.told maps.new).past (M.told pace.new).past) }
+        ensures run { AreFeeds taker.old.feeders result taker.new.taken
+            (told_by K.told M.told self.old to.old) (told_by K.told M.told self.new to.new) }
+        ensures merged { result ≢ FeedEnd.SinkFault → HasMerged taker.new.taken
+            (told_by K.told M.told self.old to.old) (told_by K.told M.told self.new to.new) }
         ensures kept { IsPrefix self.old.history self.new.history }
         ensures plan { self.new.newest.plan ≡ self.old.newest.plan }
-        ensures later { ((K.told out.old).faults ≤ (K.told out.new).faults)
-            × ((K.told maps.old).faults ≤ (K.told maps.new).faults) }
-        ensures sink { result ≡ FeedEnd.SinkFault → Rose (K.told out.old).faults
-            (K.told out.new).faults ⊎ Rose (K.told maps.old).faults (K.told maps.new).faults }
-        ensures sink_stays { result ≢ FeedEnd.SinkFault → ((K.told out.new).faults
-            ≡ (K.told out.old).faults) × ((K.told maps.new).faults ≡ (K.told maps.old).faults) }
+        ensures told { result ≢ FeedEnd.SinkFault → AreTold self.old.history to.old.told
+            → AreTold self.new.history to.new.told }
+        ensures later { HasNoLess K.told to.old to.new }
+        ensures sink { result ≡ FeedEnd.SinkFault → HasFault K.told to.old to.new }
+        ensures sink_stays { result ≢ FeedEnd.SinkFault → HasNoFault K.told to.old to.new }
     {
-        let mut noted = Noted::new(&mut self.maps, row);
-        run_feeds(rt, &mut noted, taker, out, maps, pace)
+        let mut desk = Desk::new(
+            rt,
+            &mut self.maps,
+            row,
+            Outputs {
+                out: to.out,
+                maps: to.maps,
+                pace: to.pace,
+                told: to.told,
+            },
+        );
+        let end = run_feeds(&mut desk, taker);
+        to.told = desk.told();
+        end
     }
 
     /// Closes the cell, and drops the rest. It waits for viewers that are looking.

@@ -1,5 +1,5 @@
 //! The published maps, of which the newest is at hand for the next commit.
-ghost use Rattle.std.specs.Prelude.{◌≡◌, ◌-◌, ◌<◌, ◌≤◌, ◌^◌, IfOk, IfSome, OnErr, OnOk};
+ghost use Rattle.std.specs.Prelude.{◌≡◌, ◌-◌, ◌<◌, ◌≤◌, ◌^◌, IfOk, IfSome, OnErr, OnOk, option_map};
 ghost use Rattle.map_model.specs.Batch.{IsBatch};
 ghost use Rattle.map_repair.specs.Repaired.{IsWithinTwiceSpread};
 ghost use Rattle.published_map.specs.Changes.{after};
@@ -8,9 +8,10 @@ ghost use Rattle.map_cell.specs.Histories.{IsSealed};
 ghost use Rattle.answer_core.specs.Reply.{Replies};
 ghost use Rattle.mapper.specs.Currents.{IsCurrent, IsKeptFor, IsPrepared};
 ghost use Rattle.mapper.specs.Mappers.{IsPublished, IsRepairing};
-ghost use Rattle.mapper.specs.Words.{reply_by};
+ghost use Rattle.mapper.specs.Words.{map_text, reply_by, totals_of};
 
-use crate::current::{Current, First, Kept, applied, kept_of, next_of, unworn};
+use crate::Totals;
+use crate::current::{Current, First, Kept, after_batch, applied, kept_of, next_of, unworn};
 use addr_text::Addr;
 use answer_core::{Answer, Way, reply};
 use arrayvec::ArrayVec;
@@ -116,6 +117,31 @@ impl<J: Naming> Maps<J> {
         reply(self.publisher.newest(), from, octets, 0, Way::Datagram, out)
     }
 
+    /// The newest map's reply to octets from an address, with draw 0.
+    pub fn answer(&self, from: Addr, octets: &[u8]) -> Option<ArrayVec<u8, LARGEST_REPLY>>
+        ensures { option_map (λ r. r.items) result ≡ reply_by self.now.newest from octets.now }
+    {
+        let mut out = ArrayVec::new();
+        match self.ask(from, octets, &mut out) {
+            Answer::Sent => Some(out),
+            Answer::Silent => None,
+        }
+    }
+
+    /// The text of the newest map.
+    pub fn text(&self) -> &[u8]
+        ensures { result.now ≡ map_text self.now.newest }
+    {
+        self.current.text.as_slice()
+    }
+
+    /// The newest map's totals.
+    pub fn totals(&self) -> Totals
+        ensures { result ≡ totals_of self.now.newest }
+    {
+        self.current.totals
+    }
+
     /// Takes out the kept state, or makes one of the newest map.
     fn take_kept(&mut self) -> Result<Kept, NoMemory>
         ensures same { self.new ≡ self.old }
@@ -158,15 +184,8 @@ impl<J: Naming> Maps<J> {
     {
         let newest = self.publisher.newest();
         let old = &self.current;
-        let current = next_of(
-            self.alloc,
-            newest.topology(),
-            old,
-            kept,
-            spare,
-            batch,
-            steps,
-        )?;
+        let instance = after_batch(&old.instance, spare, batch)?;
+        let current = next_of(self.alloc, newest.topology(), old, kept, instance, steps)?;
         // tells the prover what the type keeps
         let _groups = (old.instance.groups(), current.instance.groups());
         let delta = Delta::between(

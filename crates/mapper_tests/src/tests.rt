@@ -6,7 +6,7 @@ use arrayvec::ArrayVec;
 use demand_feed::{Batch, BatchFault, FeedEnd, Line, LineFault, Refusal};
 use map_cell::{EmptyHistory, MemDoor, Naming, NoteRow, OpenFault, PlainDoor, RowNotes};
 use map_model::{Instance, MapLines, Steps};
-use mapper::{Mapper, Saying, Spoken, Totals, write_saying};
+use mapper::{Mapper, Outputs, Saying, Spoken, Told, Totals, write_saying};
 use no_memory::NoMemory;
 use outside::{MemPace, MemSink, MemSource, Notes, PaceCall};
 use stable_check::{CheckRoom, Verdict, check};
@@ -271,15 +271,22 @@ fn is_as(row: &Row, end: FeedEnd, out: &[u8], maps: &[u8]) -> bool {
     end == row.end
 }
 
-/// A row that tells of the newest map alone.
+/// A row that tells of the newest map alone, and that count.
 fn row_of<J: Naming, R: Wait>(
     rt: &R,
     alloc: Global,
     mapper: &Mapper<J>,
-) -> Result<NoteRow<J>, NoMemory> {
+) -> Result<(NoteRow<J>, Told), NoMemory> {
     let row = NoteRow::new(alloc)?;
-    let _ = row.put_at(rt, 0, mapper.note());
-    Ok(row)
+    let mut told = Told::of_none();
+    told.tell(rt, &row, mapper.note());
+    Ok((row, told))
+}
+
+/// Whether a row tells of the first map and so many more, and these were counted.
+fn tells_of<J: Naming>(row: &NoteRow<J>, told: Told, more: usize) -> bool {
+    let count = count_notes(row);
+    count == more.saturating_add(1) && told.count() == count as u64
 }
 
 /// How many notes there are in a row.
@@ -317,25 +324,24 @@ fn feeds<J: Naming, R: Wait>(
     let mut said = said;
     let mut texts = texts;
     let mut calls = calls;
-    let Ok(notes) = row_of(rt, alloc, mapper) else {
+    let Ok((notes, told)) = row_of(rt, alloc, mapper) else {
         return false;
     };
-    let end = mapper.run_feed(
-        rt,
-        &mut source,
-        &mut said,
-        &mut texts,
-        &mut calls,
-        &notes,
-        1_000_000,
-    );
+    let mut to = Outputs {
+        out: &mut said,
+        maps: &mut texts,
+        pace: &mut calls,
+        told,
+    };
+    let end = mapper.run_feed(rt, &mut source, &mut to, &notes, 1_000_000);
+    let told = to.told;
     if !is_as(row, end, said.bytes(), texts.bytes()) {
         return false;
     }
     if calls.calls() != row.calls {
         return false;
     }
-    count_notes(&notes) == row.notes.saturating_add(1) && source.shortest() == Some(32_768)
+    tells_of(&notes, told, row.notes) && source.shortest() == Some(32_768)
 }
 
 /// A mapper of the example.

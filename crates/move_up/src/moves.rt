@@ -38,7 +38,8 @@ fn room_at(instance: &Instance, state: &State, pool: NodeId, units: Units) -> Un
     requires shape { IsSameShape state.now.market instance.now }
     requires pool { pool.0 < length instance.now.nodes }
     ensures few { result ≤ units }
-    ensures room { (n : ℕ) → is_under instance.now n pool.0 ≡ true → result ≤ capacity_of instance.now n - load instance.now state.now.lines n }
+    ensures room { (n : ℕ) → is_under instance.now n pool.0 ≡ true → result
+        ≤ capacity_of instance.now n - load instance.now state.now.lines n }
 {
     let mut room = units;
     let mut at = Some(pool);
@@ -57,8 +58,10 @@ fn most_at(instance: &Instance, state: &State, offer: Offer, units: Units) -> Un
     requires is_open { IsOpen instance.now state.now }
     requires offer { IsOffer instance.now offer.group.0 offer.place }
     ensures free { result ≤ slice_index state.now.free offer.group.0 }
-    ensures limit { amount_at state.now.lines offer.group.0 offer.place + result ≤ limit_of instance.now offer.group.0 offer.place }
-    ensures room { (n : ℕ) → counts_at instance.now n offer.group.0 offer.place ≡ true → result ≤ capacity_of instance.now n - load instance.now state.now.lines n }
+    ensures limit { amount_at state.now.lines offer.group.0 offer.place + result
+        ≤ limit_of instance.now offer.group.0 offer.place }
+    ensures room { (n : ℕ) → counts_at instance.now n offer.group.0 offer.place ≡ true → result
+        ≤ capacity_of instance.now n - load instance.now state.now.lines n }
 {
     let limit = u64::from(instance.limit(offer.group, offer.place));
     let left = limit - state.units(offer);
@@ -99,7 +102,8 @@ pub fn grant_marked(
 fn last_held(instance: &Instance, state: &State, group: GroupId) -> u8
     requires is_open { IsOpen instance.now state.now }
     requires group { group.0 < length instance.now.groups }
-    ensures { (k : ℕ) → IsOffer instance.now group.0 k → result < k → amount_at state.now.lines group.0 k ≡ 0 }
+    ensures { (k : ℕ) → IsOffer instance.now group.0 k → result < k
+        → amount_at state.now.lines group.0 k ≡ 0 }
 {
     let mut last = 0;
     for place in 0..instance.list_len(group) {

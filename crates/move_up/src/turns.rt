@@ -111,33 +111,39 @@ fn give_up(
     }
 }
 
-/// Makes room for units at an offer: where a full node of its path does not hold them yet, the worst offer there gives up as
+/// A move of units of a source up to an offer.
+#[derive(Clone, Copy, Debug)]
+struct Move {
+    offer: Offer,
+    source: Source,
+    units: Units,
+}
+
+/// Makes room for a move: where a full node of the offer's path does not hold the units yet, the worst offer there gives up as
 /// many.
 fn make_room(
     instance: &Instance,
     state: &mut State,
     marks: &[bool],
     search: &mut Search<'_>,
-    offer: Offer,
-    source: Source,
-    units: Units,
+    wanted: Move,
 )
     requires is_open { IsOpen instance.now state.old }
     requires size { length marks.now ≡ length instance.now.nodes }
-    requires offer { IsOffer instance.now offer.group.0 offer.place }
+    requires offer { IsOffer instance.now wanted.offer.group.0 wanted.offer.place }
     ensures { IsMoved instance.now marks.now state.old state.new }
 {
-    let Some(rival) = state.rival(instance, offer) else {
+    let Some(rival) = state.rival(instance, wanted.offer) else {
         return;
     };
-    if !is_from_under(instance, source, rival.node) {
+    if !is_from_under(instance, wanted.source, rival.node) {
         give_up(
             instance,
             state,
             marks,
             search,
             rival.offer,
-            rival.units.min(units),
+            rival.units.min(wanted.units),
         );
     }
 }
@@ -197,7 +203,12 @@ fn shift_up(
     ensures { OnOk result (IsMoved instance.now marks.now state.old state.new) }
 {
     let most = most_from(instance, state, offer, source);
-    make_room(instance, state, marks, search, offer, source, most);
+    let wanted = Move {
+        offer,
+        source,
+        units: most,
+    };
+    make_room(instance, state, marks, search, wanted);
     let room = room_for(instance, state, offer, source, most);
     free_source(instance, state, marks, search, source, room);
     take_up(instance, state, marks, search, offer, room)

@@ -1,27 +1,22 @@
 -- What learning, answering and receiving do, for the code's answers.
-use Rattle.std.proofs.Common.{◌≡◌, ℕ, ◌+◌, ◌<◌, ◌≤◌, List, [], ◌∷◌, ◌++◌, length, max, All, Option, None, Some, refl, sym, ap, subst, ◌∙◌, arith, append_assoc}
+use Rattle.std.proofs.Common.{◌≡◌, ℕ, ◌+◌, ◌<◌, ◌≤◌, List, [], ◌∷◌, ◌++◌, length, max, All, Option, Some, sym, ap, subst, ◌∙◌, arith, append_assoc, map}
 use Rattle.std.proofs.lemmas.Grind.{common_steps}
+use Rattle.std.proofs.lemmas.List.{map-append}
 use mathlib.Core.List.{IsPrefix}
-use Rattle.outside.specs.Faults.{BothTell, raised}
+use Rattle.outside.specs.Faults.{BothTell}
 use Rattle.published_map.specs.Version.{Version}
-use Rattle.outside.specs.Notes.{NotesTold, IsNextNote}
+use Rattle.outside.specs.Notes.{Given, NotesTold, IsNextNote, noting}
 use Rattle.lane_model.specs.Calls.{Eyes, IsRise}
-use Rattle.lane_model.specs.Turns.{IsGiven}
 use Rattle.lane_model.proofs.Prefixes.{prefix_self}
 use Rattle.lane_model.proofs.Runs.{tells_on}
-use Rattle.name_workers.specs.Given.{AreGivenSoFar, AreSome}
+use Rattle.name_workers.specs.Given.{AreGivenSoFar, giving_some}
 use Rattle.name_workers.specs.Worker.{IsLookRefused}
 
-none_given : (b : NotesTold) → AreSome [] b b
-none_given b = record { coming = refl; nones = refl }
-
-tells_none : (x : Option NotesTold) → BothTell x x (AreSome [])
-tells_none None = tt
-tells_none (Some b) = none_given b
-
 -- one note more
-some_more : (serials : List ℕ) (number : ℕ) (b c d : NotesTold) → AreSome serials b c → IsNextNote (Some number) c d → AreSome (serials ++ number ∷ []) b d
-some_more serials number b c d p q = record { coming = p.coming ∙ (ap (λ l. serials ++ l) q.0 ∙ sym (append_assoc serials (number ∷ []) d.coming)); nones = q.1 ∙ p.nones }
+some_more : (serials : List ℕ) (number : ℕ) (b c d : NotesTold) → c ≡ giving_some serials b → IsNextNote (Some number) c d → d ≡ giving_some (serials ++ number ∷ []) b
+some_more serials number b c d p q =
+    let at : ℕ → Given = λ s. record { number = s; place = b.nones } in
+    q ∙ (ap (λ x. noting (Some number) x) p ∙ ap (λ g. record b { given = g }) (append_assoc b.given (map at serials) (at number ∷ []) ∙ ap (λ l. b.given ++ l) (sym (map-append at serials (number ∷ [])))))
 
 below_more : (serials : List ℕ) (s below below' : ℕ) → All (λ x. x < below) serials → below ≤ below' → s < below' → All (λ x. x < below') (serials ++ s ∷ [])
 below_more serials s below below' p le lt =
@@ -31,7 +26,7 @@ below_more serials s below below' p le lt =
 pub given_more : (number : ℕ) (x y z : Option NotesTold) (below below' : ℕ) → AreGivenSoFar x y below → BothTell y z (IsNextNote (Some number)) → below ≤ below' → number < below' → AreGivenSoFar x z below'
 given_more number x y z below below' p q le lt = record {
   serials = p.serials ++ number ∷ [];
-  given = tells_on x y z (AreSome p.serials) (IsNextNote (Some number)) (AreSome (p.serials ++ number ∷ [])) (some_more p.serials number) p.given q;
+  given = tells_on x y z (λ b c. c ≡ giving_some p.serials b) (IsNextNote (Some number)) (λ b c. c ≡ giving_some (p.serials ++ number ∷ []) b) (some_more p.serials number) p.given q;
   noted = below_more p.serials number below below' p.noted le lt;
 }
 

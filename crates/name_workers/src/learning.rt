@@ -2,7 +2,7 @@
 ghost use Rattle.std.specs.Prelude.{◌≡◌, ◌<◌, ℕ, length, List, All};
 ghost use Rattle.outside.specs.Faults.{BothTell};
 ghost use Rattle.lane_model.specs.Calls.{IsRise};
-ghost use Rattle.lane_model.specs.Turns.{IsGiven};
+ghost use Rattle.lane_model.specs.Turns.{giving};
 ghost use Rattle.name_workers.specs.Moments.{eyes_of};
 
 use crate::worker::Worker;
@@ -16,7 +16,7 @@ pub fn learn_all<J: Naming, D: Door, N: Notes<Note<J>>>(
     notes: &mut N,
 )
     ensures given { (serials : List ℕ) × BothTell (N.told notes.old) (N.told notes.new)
-        (IsGiven serials) × All (λ s. s < length worker.new.viewer.heard) serials }
+        (λ b c. c ≡ giving serials b) × All (λ s. s < length worker.new.viewer.heard) serials }
     ensures rise { IsRise
         (eyes_of D.told worker.old.viewer door.old) (eyes_of D.told worker.new.viewer door.new) }
     ensures looks { (D.told door.new).looks ≡ (D.told door.old).looks }

@@ -1,2 +1,3 @@
 mod LimitsAre
 mod Pieces
+mod Shelves

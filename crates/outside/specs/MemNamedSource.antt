@@ -1,13 +1,18 @@
 -- What a source in memory holds that is opened by a name.
 use Rattle.std.specs.Prelude.{ℕ, ◌+◌, ◌<◌, ◌≤◌, ◌⊎◌, List, length, Contains}
 use Rattle.outside.specs.Calls.{Counted}
-use Rattle.outside.specs.MemSource.{SourceInMemory}
+use Rattle.outside.specs.MemSource.{SourceInMemory, fed}
+use Rattle.outside.specs.Source.{Fed}
 
 -- a source in memory, the names under which it was opened, and its openings
 pub record NamedInMemory : Type 0 where
   pub source : SourceInMemory
   pub names : List (List ℕ)
   pub opens : Counted
+
+-- what it tells: what the source does, and the names
+abbrev pub named_fed : NamedInMemory → Fed
+named_fed s = record (fed s.source) { names = s.names }
 
 -- how many calls failed
 abbrev pub named_faults : NamedInMemory → ℕ

@@ -26,7 +26,7 @@ total (size ∷ sizes) = size + total sizes
 
 -- what it tells
 abbrev pub fed : SourceInMemory → Fed
-fed source = record { left = Some source.left; pieces = source.pieces; shortest = source.shortest; is_ended = source.is_ended }
+fed source = record { left = Some source.left; pieces = source.pieces; shortest = source.shortest; is_ended = source.is_ended; names = [] }
 
 -- the size of the next piece: that of the list, or all, but at least one octet, and no more than fit and are left
 abbrev pub next_size : List ℕ → ℕ → ℕ → ℕ

@@ -1,13 +1,22 @@
 -- What notes tell, by the numbers of the notes, and what one call does.
-use Rattle.std.specs.Prelude.{◌≡◌, ℕ, List, ◌∷◌, Option, None, Some}
+use Rattle.std.specs.Prelude.{◌≡◌, ℕ, List, [], ◌∷◌, ◌++◌, Option, None, Some}
 use Rattle.outside.specs.Faults.{raised}
 
--- what notes tell: the numbers of those that are to come, and how many None answers there were
+-- a note that was given: its number, and how many None answers came before it
+pub record Given : Type 0 where
+  pub number : ℕ
+  pub place : ℕ
+
+-- what notes tell: those that were given, in order, and how many None answers there were
 pub record NotesTold : Type 0 where
-  pub coming : List ℕ
+  pub given : List Given
   pub nones : ℕ
 
--- what one call does to the notes, which gave the note of that number, or none
+-- notes behind one call more, which gave the note of that number, or none
+abbrev pub noting : Option ℕ → NotesTold → NotesTold
+noting None notes = record notes { nones = raised notes.nones 1 }
+noting (Some number) notes = record notes { given = notes.given ++ (record { number = number; place = notes.nones }) ∷ [] }
+
+-- what one call does to them
 abbrev pub IsNextNote : Option ℕ → NotesTold → NotesTold → Type 0
-IsNextNote None before after = after ≡ record before { nones = raised before.nones 1 }
-IsNextNote (Some number) before after = (before.coming ≡ number ∷ after.coming) × (after.nones ≡ before.nones)
+IsNextNote answer before after = after ≡ noting answer before

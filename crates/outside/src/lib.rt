@@ -41,7 +41,7 @@ pub use hold_pace::HoldPace;
 pub use limits::{LARGEST_DATAGRAM, LARGEST_REPLY, MOST_NOTES};
 pub use mem_gate::{MemGate, MemShown};
 pub use mem_named_source::MemNamedSource;
-pub use mem_notes::{Due, MemNotes};
+pub use mem_notes::{Due, MemGiven, MemNotes};
 pub use mem_pace::MemPace;
 pub use mem_port::{MemPacket, MemPort, MemTaken, MemTry};
 pub use mem_shelf::MemShelf;

@@ -2,9 +2,9 @@
 ghost use Rattle.std.specs.Prelude.{◌≡◌, ◌≢◌, ◌≤◌, ◌↔◌, ◌⊎◌, Some, [], true, length, map, IfOk};
 ghost use Rattle.outside.specs.Calls.{counted};
 ghost use Rattle.outside.specs.Faults.{BothTell, Rose};
-ghost use Rattle.outside.specs.MemNamedSource.{OpenFails, named_faults};
+ghost use Rattle.outside.specs.MemNamedSource.{OpenFails, named_faults, named_fed};
 ghost use Rattle.outside.specs.MemPort.{is_shut};
-ghost use Rattle.outside.specs.MemSource.{FailsNext, IsNextPiece, fed, is_failed};
+ghost use Rattle.outside.specs.MemSource.{FailsNext, IsNextPiece, is_failed};
 ghost use Rattle.outside.specs.NamedSource.{IsNamed};
 ghost use Rattle.outside.specs.Source.{IsRead, IsWithin};
 
@@ -78,13 +78,13 @@ impl MemNamedSource {
 }
 
 impl Source for MemNamedSource {
-    ghost told = { λ s. record { past = Some (fed s.source); faults = named_faults s } };
+    ghost told = { λ s. record { past = Some (named_fed s); faults = named_faults s } };
 
     fn read(&mut self, buffer: &mut [u8]) -> Read
         requires { 1 ≤ length buffer.old }
         ensures within { IsWithin result (length buffer.old) }
-        ensures read { BothTell (Some (fed self.old.source))
-            (Some (fed self.new.source)) (IsRead (length buffer.old) result buffer.new) }
+        ensures read { BothTell (Some (named_fed self.old))
+            (Some (named_fed self.new)) (IsRead (length buffer.old) result buffer.new) }
         ensures later { named_faults self.old ≤ named_faults self.new }
         ensures cause { result ≡ Read.Failed
             → Rose (named_faults self.old) (named_faults self.new) }
@@ -102,13 +102,9 @@ impl Source for MemNamedSource {
 }
 
 impl NamedSource for MemNamedSource {
-    ghost opens = { λ s. Some s.names };
-
     fn open(&mut self, name: &str) -> Opening
         ensures open { BothTell
-            (Some self.old.names) (Some self.new.names) (IsNamed name.now result) }
-        ensures told { BothTell (Some (fed self.old.source))
-            (Some (fed self.new.source)) (λ before after. after ≡ before) }
+            (Some (named_fed self.old)) (Some (named_fed self.new)) (IsNamed name.now result) }
         ensures later { named_faults self.old ≤ named_faults self.new }
         ensures cause { result ≡ Opening.Failed
             → Rose (named_faults self.old) (named_faults self.new) }

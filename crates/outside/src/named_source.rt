@@ -1,20 +1,16 @@
 //! Sources that are opened by a name.
-ghost use Rattle.std.specs.Prelude.{◌≡◌, ◌≢◌, ◌≤◌, ℕ, List, Option};
+ghost use Rattle.std.specs.Prelude.{◌≡◌, ◌≢◌, ◌≤◌};
 ghost use Rattle.outside.specs.Faults.{BothTell, Rose};
 ghost use Rattle.outside.specs.NamedSource.{IsNamed};
 
 use crate::{Opening, Source};
 
-/// A source that is opened by a name.
+/// A source that is opened by a name. What it tells as a source has the names under which it was opened, in order.
 pub trait NamedSource: Source {
-    /// The names under which it was opened, in order, where it tells that.
-    ghost opens: { Self → Option (List (List ℕ)) };
-
-    /// Opens it under that name. What it tells as a source stays.
+    /// Opens it under that name.
     fn open(&mut self, name: &str) -> Opening
-        ensures open { BothTell (opens self.old) (opens self.new) (IsNamed name.now result) }
-        ensures told { BothTell (Self.told self.old).past (Self.told self.new).past (λ before after.
-            after ≡ before) }
+        ensures open { BothTell
+            (Self.told self.old).past (Self.told self.new).past (IsNamed name.now result) }
         ensures later { (Self.told self.old).faults ≤ (Self.told self.new).faults }
         ensures cause { result ≡ Opening.Failed
             → Rose (Self.told self.old).faults (Self.told self.new).faults }

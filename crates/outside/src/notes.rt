@@ -8,12 +8,16 @@ ghost use Rattle.outside.specs.declared.limits.TheConstants.{MOST_NOTES};
 pub trait Numbered {
     /// Its number.
     ghost number: { Self → ℕ };
+
+    /// Its number.
+    fn as_number(&self) -> u64
+        ensures { result ≡ number self.now };
 }
 
 /// Notes of one kind that a worker is given, one after another; each names a map. They end, so that it can read all that
 /// are there.
 pub trait Notes<T: Numbered> {
-    /// The numbers of those that are to come, and how many answers were `None`, where they tell that.
+    /// Those that were given, each behind so many answers that were `None`, and how many were, where they tell that.
     ghost told: { Self → Option NotesTold };
 
     /// How many may still come.

@@ -1,9 +1,10 @@
 pub mod Calls
 pub mod Gate
 pub mod Line
-pub mod Names
+pub mod Notes
 pub mod Pace
 pub mod Port
+pub mod Shelf
 pub mod Sink
 pub mod Source
 pub mod Streams

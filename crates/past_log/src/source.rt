@@ -11,6 +11,12 @@ pub struct SourceEvent<'a> {
     pub read: Read,
 }
 
+/// An opening under a name.
+#[derive(Clone, Copy, Drop)]
+pub struct NameEvent<'a> {
+    pub name: &'a str,
+}
+
 /// What a source tells.
 pub struct SourceTelling {
     marker: PhantomData<u8>,
@@ -35,6 +41,12 @@ impl EventOf<SourceTelling> for SourceEvent<'_> {
     ghost use Rattle.past_log.specs.Source.{noted};
 
     ghost noted = { noted };
+}
+
+impl EventOf<SourceTelling> for NameEvent<'_> {
+    ghost use Rattle.past_log.specs.Source.{named};
+
+    ghost noted = { named };
 }
 
 /// All that a source was asked.

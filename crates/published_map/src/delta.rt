@@ -49,7 +49,18 @@ fn push_row(
 ) -> Result<(), NoMemory>
     requires lines { length new.lines.now ≤ PLACES }
     requires names { length new.names.now ≤ PLACES }
-    ensures { OnOk result (IsGathered ((demands.0 ≡ demands.1) × (old.entry.lines.now ≡ new.entry.lines.now) × (old.entry.names.now ≡ new.entry.names.now)) groups.old.items (group, record { demand = demands.1; amounts = record { items = map (λ l. (l.place, l.amount)) new.entry.lines.now }; names = record { items = map (λ l. (l.place, l.by)) new.entry.names.now } }) groups.new.items) }
+    ensures { OnOk result (IsGathered ((demands.0 ≡ demands.1)
+        × (old.entry.lines.now ≡ new.entry.lines.now) × (old.entry.names.now ≡ new.entry.names.now))
+        groups.old.items (
+          group,
+          record {
+            demand = demands.1;
+            amounts = record
+                { items = map (λ l. (l.place, l.amount)) new.entry.lines.now };
+            names = record
+                { items = map (λ l. (l.place, l.by)) new.entry.names.now };
+          },
+        ) groups.new.items) }
 {
     if demands.0 == demands.1
         && same_lines(old.lines, new.lines)
@@ -98,7 +109,9 @@ fn changed_rows(
     requires old { IsMapForm old.now old_map.now.lines.items old_map.now.names.items }
     requires new { IsMapForm new.now new_map.now.lines.items new_map.now.names.items }
     requires shape { IsSameShape old.now new.now }
-    ensures { IfOk result (λ rows. RowsChanged old.now old_map.now.lines.items old_map.now.names.items new.now new_map.now.lines.items new_map.now.names.items (length old.now.groups) rows.items) }
+    ensures { IfOk result (λ rows. RowsChanged old.now old_map.now.lines.items
+        old_map.now.names.items new.now new_map.now.lines.items new_map.now.names.items
+        (length old.now.groups) rows.items) }
 {
     // tells the prover what the type keeps
     let _ = new.groups();
@@ -153,7 +166,22 @@ impl Delta {
         requires old { IsMapForm old.now old_map.now.lines.items old_map.now.names.items }
         requires new { IsMapForm new.now new_map.now.lines.items new_map.now.names.items }
         requires shape { IsSameShape old.now new.now }
-        ensures { IfOk result (λ d. (plan : Plan) → IsBetween (record { serial = base; market = old.now; lines = old_map.now.lines.items; names = old_map.now.names.items; plan = plan }) (record { serial = base + 1; market = new.now; lines = new_map.now.lines.items; names = new_map.now.names.items; plan = plan }) d) }
+        ensures { IfOk result (λ d. (plan : Plan)
+            → IsBetween (record {
+              serial = base;
+              market = old.now;
+              lines = old_map.now.lines.items;
+              names = old_map.now.names.items;
+              plan = plan;
+            })
+            (record {
+              serial = base + 1;
+              market = new.now;
+              lines = new_map.now.lines.items;
+              names =
+                  new_map.now.names.items;
+              plan = plan;
+            }) d) }
     {
         let groups = changed_rows(alloc, old, old_map, new, new_map)?;
         let nodes = changed_capacities(alloc, old, new)?;

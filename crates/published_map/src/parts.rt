@@ -30,10 +30,14 @@ fn leading_names(names: &[NameLine], group: GroupId) -> usize
 
 /// What comes first of that group, and what is behind it.
 pub(crate) fn split<'a>(part: Part<'a>, group: GroupId) -> (Part<'a>, Part<'a>)
-    ensures lines { result.0.lines.now ≡ take (prefix_len (λ l. l.group.0 == group.0) part.entry.lines.now) part.entry.lines.now }
-    ensures names { result.0.names.now ≡ take (prefix_len (λ l. l.group.0 == group.0) part.entry.names.now) part.entry.names.now }
-    ensures lines_behind { result.1.lines.now ≡ drop (prefix_len (λ l. l.group.0 == group.0) part.entry.lines.now) part.entry.lines.now }
-    ensures names_behind { result.1.names.now ≡ drop (prefix_len (λ l. l.group.0 == group.0) part.entry.names.now) part.entry.names.now }
+    ensures lines { result.0.lines.now
+        ≡ take (prefix_len (λ l. l.group.0 == group.0) part.entry.lines.now) part.entry.lines.now }
+    ensures names { result.0.names.now
+        ≡ take (prefix_len (λ l. l.group.0 == group.0) part.entry.names.now) part.entry.names.now }
+    ensures lines_behind { result.1.lines.now
+        ≡ drop (prefix_len (λ l. l.group.0 == group.0) part.entry.lines.now) part.entry.lines.now }
+    ensures names_behind { result.1.names.now
+        ≡ drop (prefix_len (λ l. l.group.0 == group.0) part.entry.names.now) part.entry.names.now }
 {
     let (lines, lines_behind) = part.lines.split_at(leading_lines(part.lines, group));
     let (names, names_behind) = part.names.split_at(leading_names(part.names, group));
@@ -72,7 +76,13 @@ fn named_of(names: &[NameLine]) -> ArrayVec<(u8, By), PLACES>
 pub(crate) fn row(demand: u32, own: Part<'_>) -> GroupRow
     requires lines { length own.lines.now ≤ PLACES }
     requires names { length own.names.now ≤ PLACES }
-    ensures { result ≡ record { demand = demand; amounts = record { items = map (λ l. (l.place, l.amount)) own.entry.lines.now }; names = record { items = map (λ l. (l.place, l.by)) own.entry.names.now } } }
+    ensures { result ≡ record {
+      demand = demand;
+      amounts = record
+          { items = map (λ l. (l.place, l.amount)) own.entry.lines.now };
+      names = record
+          { items = map (λ l. (l.place, l.by)) own.entry.names.now };
+    } }
 {
     GroupRow {
         demand,

@@ -53,7 +53,8 @@ fn amount_in(own: &[(u8, u32)], place: u8) -> u32
 /// The units at the first places.
 pub(crate) fn amounts(own: &[(u8, u32)], places: u8) -> ArrayVec<u32, PLACES>
     requires { (sum_by (λ a. a.1) own.now < 2 ^ 32) × (places ≤ PLACES) }
-    ensures { result.items ≡ map (λ k. sum_by (λ a. if a.0 == k then a.1 else 0) own.now) (range_with_len 0 places) }
+    ensures { result.items ≡ map (λ k. sum_by (λ a. if a.0 == k then a.1 else 0) own.now)
+        (range_with_len 0 places) }
 {
     let mut amounts = ArrayVec::new();
     for place in 0..places {

@@ -61,7 +61,8 @@ fn recall_plan(shared: &Arc<Shared>)
 /// The rows of an instance and a map.
 fn rows_of(alloc: Global, instance: &Instance, map: &MapLines) -> Result<Vec<GroupRow>, NoMemory>
     requires { IsMapForm instance.now map.now.lines.items map.now.names.items }
-    ensures { IfOk result (λ rows. rows.items ≡ rows_of instance.now map.now.lines.items map.now.names.items) }
+    ensures { IfOk result (λ rows. rows.items
+        ≡ rows_of instance.now map.now.lines.items map.now.names.items) }
 {
     let mut rows = Vec::with_capacity(alloc, instance.groups() as usize)?;
     let mut rest = Part {
@@ -118,7 +119,15 @@ impl MapVersion {
         requires good { IsGood instance.now map.now.lines.items map.now.names.items }
         requires shape { IsSameShape (plan_of (arc_value shared)).market instance.now }
         requires lookup { LooksUp (arc_value shared) }
-        ensures value { IfOk result (λ v. v ≡ record { serial = serial; market = instance.now; lines = map.now.lines.items; names = map.now.names.items; plan = plan_of (arc_value shared) }) }
+        ensures value { IfOk result (λ v. v
+            ≡ record {
+              serial = serial;
+              market = instance.now;
+              lines = map.now.lines.items;
+              names =
+                  map.now.names.items;
+              plan = plan_of (arc_value shared);
+            }) }
         ensures version { IfOk result IsVersion }
     {
         recall_plan(&shared);

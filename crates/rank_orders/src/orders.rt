@@ -47,7 +47,8 @@ impl Orders {
         ensures value { result ≡ is_better self.now a b }
         ensures strict { IsTrue result → IsFalse (is_better self.now b a) }
         ensures total { ¬ (a ≡ b) → IsFalse result → IsTrue (is_better self.now b a) }
-        ensures transitive { (c : Offer) → IsTrue result → IsTrue (is_better self.now b c) → IsTrue (is_better self.now a c) }
+        ensures transitive { (c : Offer) → IsTrue result → IsTrue (is_better self.now b c)
+            → IsTrue (is_better self.now a c) }
     {
         // tells the prover what the type keeps
         let _groups = self.instance.groups();
@@ -57,7 +58,8 @@ impl Orders {
     /// The offer of the same group at the following place, unless the list ends.
     pub fn next_place(&self, offer: Offer) -> Option<Offer>
         requires { IsOffer self.now offer.group.0 offer.place }
-        ensures { result ≡ (if nat_lt (offer.place + 1) (length (choices_of self.now offer.group.0)) then Some (record offer { place = offer.place + 1 }) else None) }
+        ensures { result ≡ (if nat_lt (offer.place + 1) (length (choices_of self.now offer.group.0))
+            then Some (record offer { place = offer.place + 1 }) else None) }
     {
         let places = self.instance.list_len(offer.group);
         if offer.place + 1 < places {

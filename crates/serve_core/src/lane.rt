@@ -2,7 +2,7 @@
 ghost use Rattle.std.specs.Prelude.{◌≡◌, true, OnOk, OnErr};
 ghost use Rattle.lane_model.specs.Machine.{fresh, passed, replied, heard};
 ghost use Rattle.published_map.specs.Version.{IsVersion};
-ghost use Rattle.serve_core.specs.Lanes.{entry_of_row};
+ghost use Rattle.serve_core.specs.Lanes.{entry_of_row, packet_of};
 ghost use Rattle.serve_core.specs.Takings.{IsTakenBy};
 
 use crate::octets::Octets;
@@ -15,6 +15,13 @@ use outside::LARGEST_REPLY;
 use published_map::MapVersion;
 use std::alloc::Global;
 use std::marker::Model;
+
+/// A datagram as it came: its octets, and who sent it.
+#[derive(Drop)]
+pub struct Datagram {
+    pub octets: Octets,
+    pub from: Peer,
+}
 
 /// A datagram that a lane took.
 #[derive(Drop)]
@@ -49,7 +56,13 @@ impl Model for LaneRow {
 
     ghost Value = { LaneState };
 
-    ghost view = { λ l. record { seen = l.seen; count = l.count; taken = map entry_of_row l.taken.items; tries = map try_of_row l.tries.items } };
+    ghost view = { λ l. record {
+      seen = l.seen;
+      count = l.count;
+      taken = map entry_of_row
+          l.taken.items;
+      tries = map try_of_row l.tries.items;
+    } };
 }
 
 impl LaneRow {
@@ -80,9 +93,11 @@ impl LaneRow {
     }
 
     /// A datagram, with what the lane knows.
-    fn row(&self, octets: Octets, from: Peer, way: Way) -> TakenRow
-        ensures { entry_of_row result ≡ record { packet = record { octets = octets; from = from }; known = self.now.seen; way = way } }
+    fn row(&self, datagram: Datagram, way: Way) -> TakenRow
+        ensures { entry_of_row result
+            ≡ record { packet = packet_of datagram; known = self.now.seen; way = way } }
     {
+        let Datagram { octets, from } = datagram;
         TakenRow {
             octets,
             from,
@@ -92,11 +107,11 @@ impl LaneRow {
     }
 
     /// Takes a datagram that has no reply.
-    fn pass(&mut self, octets: Octets, from: Peer, serial: u64, way: Way) -> Result<(), NoMemory>
-        ensures ok { OnOk result (self.new ≡ passed (record { octets = octets; from = from }) serial way self.old) }
+    fn pass(&mut self, datagram: Datagram, serial: u64, way: Way) -> Result<(), NoMemory>
+        ensures ok { OnOk result (self.new ≡ passed (packet_of datagram) serial way self.old) }
         ensures err { OnErr result (self.new ≡ self.old) }
     {
-        let row = self.row(octets, from, way);
+        let row = self.row(datagram, way);
         self.taken.push(row)?;
         self.seen = serial;
         self.count = next_number(self.count);
@@ -106,21 +121,23 @@ impl LaneRow {
     /// Takes a datagram, and tries a reply.
     fn respond(
         &mut self,
-        octets: Octets,
-        from: Peer,
+        datagram: Datagram,
         serial: u64,
         way: Way,
         text: ArrayVec<u8, LARGEST_REPLY>,
     ) -> Result<(), NoMemory>
-        ensures ok { OnOk result (self.new ≡ replied (record { octets = octets; from = from }) (record { octets = text.items; to = from; serial = serial; went = true }) way self.old) }
+        ensures ok { OnOk result (self.new ≡ replied (packet_of datagram)
+            (record { octets = text.items; to = datagram.from; serial = serial; went = true })
+            way self.old) }
         ensures err { OnErr result (self.new ≡ self.old) }
     {
         self.tries.reserve(1)?;
-        let row = self.row(octets, from, way);
+        let to = datagram.from;
+        let row = self.row(datagram, way);
         self.taken.push(row)?;
         self.tries.push_reserved(TryRow {
             octets: text,
-            to: from,
+            to,
             serial,
         });
         self.seen = serial;
@@ -134,20 +151,27 @@ impl LaneRow {
         &mut self,
         version: &MapVersion,
         number: u8,
-        octets: Octets,
-        from: Peer,
+        datagram: Datagram,
         serial: u64,
         way: Way,
     ) -> Result<(), NoMemory>
         requires { IsVersion version.now }
-        ensures ok { OnOk result (IsTakenBy version.now number (record { octets = octets; from = from }) serial way self.old self.new) }
+        ensures ok { OnOk result (IsTakenBy version.now number
+            (packet_of datagram) serial way self.old self.new) }
         ensures err { OnErr result (self.new ≡ self.old) }
     {
         let draw = draw_of(number, self.count);
         let mut text = ArrayVec::new();
-        match reply(version, from.addr, octets.as_slice(), draw, way, &mut text) {
-            Answer::Silent => self.pass(octets, from, serial, way),
-            Answer::Sent => self.respond(octets, from, serial, way, text),
+        match reply(
+            version,
+            datagram.from.addr,
+            datagram.octets.as_slice(),
+            draw,
+            way,
+            &mut text,
+        ) {
+            Answer::Silent => self.pass(datagram, serial, way),
+            Answer::Sent => self.respond(datagram, serial, way, text),
         }
     }
 }

@@ -15,7 +15,7 @@ ghost use Rattle.serve_core.specs.Minded.{AreMinded};
 ghost use Rattle.serve_core.specs.Takings.{IsCommitFault, IsTaking};
 
 use crate::event::{Event, StepFault};
-use crate::lane::LaneRow;
+use crate::lane::{Datagram, LaneRow};
 use crate::octets::Octets;
 use addr_text::Peer;
 use answer_core::Way;
@@ -95,7 +95,8 @@ impl World {
         requires version { IsVersion version }
         requires serial { version.serial ≡ 0 }
         requires market { version.market ≡ version.plan.market }
-        ensures world { IfOk result (λ w. w ≡ record { history = version ∷ []; lanes = replicate lanes fresh }) }
+        ensures world { IfOk result (λ w. w
+            ≡ record { history = version ∷ []; lanes = replicate lanes fresh }) }
         ensures kept { IfOk result (λ w. IsLawful replies Follows version w) }
     {
         let instance = version.topology().instance().try_clone()?;
@@ -122,9 +123,12 @@ impl World {
 
     /// The version that a commit adds, with its instance.
     fn next(&self, batch: &Batch, map: &MapLines) -> Result<(Instance, MapVersion), StepFault>
-        requires { (v : Version) → newest_of self.now.history ≡ Some v → IsBatch v.market batch.now }
-        ensures next { IfOk result (λ made. IsCommitOf self.now.history batch.now map.now made.1 × (made.1.market ≡ made.0)) }
-        ensures refused { IfErr result (λ fault. IsCommitFault self.now.history batch.now map.now fault) }
+        requires { (v : Version) → newest_of self.now.history ≡ Some v
+            → IsBatch v.market batch.now }
+        ensures next { IfOk result (λ made. IsCommitOf self.now.history batch.now map.now made.1
+            × (made.1.market ≡ made.0)) }
+        ensures refused { IfErr result (λ fault. IsCommitFault self.now.history batch.now map.now
+            fault) }
     {
         let newest = self.newest();
         let last = version_at(self.versions.as_slice(), newest);
@@ -141,8 +145,10 @@ impl World {
 
     /// Publishes a map.
     fn commit(&mut self, batch: &Batch, map: &MapLines) -> Result<(), StepFault>
-        requires { (v : Version) → newest_of self.old.history ≡ Some v → IsBatch v.market batch.now }
-        ensures ok { OnOk result ((v : Version) × IsCommitOf self.old.history batch.now map.now v × (self.new ≡ record self.old { history = self.old.history ++ v ∷ [] })) }
+        requires { (v : Version) → newest_of self.old.history ≡ Some v
+            → IsBatch v.market batch.now }
+        ensures ok { OnOk result ((v : Version) × IsCommitOf self.old.history batch.now map.now v
+            × (self.new ≡ record self.old { history = self.old.history ++ v ∷ [] })) }
         ensures refused { IfErr result (IsCommitFault self.old.history batch.now map.now) }
         ensures same { OnErr result (self.new ≡ self.old) }
     {
@@ -157,7 +163,12 @@ impl World {
 
     /// Lets a lane learn of a serial.
     fn tell(&mut self, lane: u8, serial: u64) -> Result<(), StepFault>
-        ensures ok { OnOk result ((lane < length self.old.lanes) × (serial < length self.old.history) × (self.new ≡ record self.old { lanes = slice_set self.old.lanes lane (heard serial (lane_at self.old lane)) })) }
+        ensures ok { OnOk result ((lane < length self.old.lanes)
+            × (serial < length self.old.history)
+            × (self.new ≡ record self.old {
+              lanes = slice_set self.old.lanes lane
+                  (heard serial (lane_at self.old lane));
+            })) }
         ensures refused { IfErr result (IsRefused (Event.Tell lane serial) self.old) }
         ensures same { OnErr result (self.new ≡ self.old) }
     {
@@ -182,7 +193,8 @@ impl World {
         serial: u64,
         way: Way,
     ) -> Result<(), StepFault>
-        ensures ok { OnOk result (IsTaking lane (record { octets = octets; from = from }) serial way self.old self.new) }
+        ensures ok { OnOk result (IsTaking lane (record { octets = octets; from = from }) serial way
+            self.old self.new) }
         ensures refused { IfErr result (IsRefused (Event.Take lane octets from serial way) self.old) }
         ensures same { OnErr result (self.new ≡ self.old) }
     {
@@ -199,7 +211,8 @@ impl World {
         }
         let version = version_at(self.versions.as_slice(), serial);
         let row = &mut self.lanes[lane as usize];
-        row.take(version, lane, octets, from, serial, way)?;
+        let datagram = Datagram { octets, from };
+        row.take(version, lane, datagram, serial, way)?;
         Ok(())
     }
 
@@ -233,9 +246,11 @@ impl World {
     ///
     /// As `step`, of the first event that is refused.
     pub fn run(&mut self, events: Vec<Event>) -> Result<(), StepFault>
-        requires { (v : Version) → newest_of self.old.history ≡ Some v → All (IsEventFor v.market) events.items }
+        requires { (v : Version) → newest_of self.old.history ≡ Some v
+            → All (IsEventFor v.market) events.items }
         ensures runs { RunsTo events.items self.old self.new (result_err result) }
-        ensures kept { (first : Version) → IsLawful replies Follows first self.old → IsLawful replies Follows first self.new }
+        ensures kept { (first : Version) → IsLawful replies Follows first self.old
+            → IsLawful replies Follows first self.new }
         ensures minded { AreMinded events.items self.old self.new (result_err result) }
     {
         let mut behind = backwards(events);

@@ -193,12 +193,10 @@ fn serves(lane: &HoldLane<'_>, serials: &[u64]) -> bool {
     are_known(lane.port.taken(), serials) && are_tried(lane.port.tries(), serials)
 }
 
-/// Whether the first two lanes served these serials. The first was given the note of each map.
+/// Whether the first two lanes served these serials.
 fn serve_both(lanes: &[HoldLane<'_>], first: &[u64], second: &[u64]) -> bool {
     match lanes {
-        [one, two, ..] => {
-            serves(one, first) && one.noted == first.len() as u64 && serves(two, second)
-        }
+        [one, two, ..] => { serves(one, first) && serves(two, second) }
         _ => false,
     }
 }

@@ -351,20 +351,26 @@ enum Which {
     Changes,
 }
 
+/// A harm, and where it is done.
+#[derive(Clone, Copy)]
+struct Damage {
+    at: usize,
+    harm: Harm,
+}
+
 /// A file, harmed where it is the one that is to be.
 fn file_of(
     alloc: Global,
     name: &str,
     text: &[u8],
     is_harmed: bool,
-    at: usize,
-    harm: Harm,
+    damage: Damage,
 ) -> Result<File, NoMemory>
     requires { length name.now ≤ 255 }
 {
     let mut text = Vec::from_slice(alloc, text)?;
     if is_harmed {
-        harm_text(&mut text, at, harm);
+        harm_text(&mut text, damage.at, damage.harm);
     }
     Ok(File::new(name, text))
 }
@@ -376,12 +382,11 @@ fn push_file(
     name: &str,
     text: &[u8],
     is_harmed: bool,
-    at: usize,
-    harm: Harm,
+    damage: Damage,
 ) -> Result<(), NoMemory>
     requires { length name.now ≤ 255 }
 {
-    let file = file_of(alloc, name, text, is_harmed, at, harm)?;
+    let file = file_of(alloc, name, text, is_harmed, damage)?;
     files.push(file)?;
     Ok(())
 }
@@ -394,17 +399,17 @@ fn files_of(
     harm: Harm,
 ) -> Result<MemShelf, NoMemory> {
     let mut files = Vec::new(alloc);
+    let damage = Damage { at, harm };
     let (is_topology, is_map) = (which == Which::Topology, which == Which::Map);
-    push_file(alloc, &mut files, "t", topology, is_topology, at, harm)?;
-    push_file(alloc, &mut files, "m", GOOD_REGION, is_map, at, harm)?;
+    push_file(alloc, &mut files, "t", topology, is_topology, damage)?;
+    push_file(alloc, &mut files, "m", GOOD_REGION, is_map, damage)?;
     push_file(
         alloc,
         &mut files,
         "c",
         CHANGES,
         which == Which::Changes,
-        at,
-        harm,
+        damage,
     )?;
     MemShelf::new(alloc, files, 8, Vec::new(alloc))
 }

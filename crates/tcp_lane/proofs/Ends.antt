@@ -4,7 +4,7 @@ use Rattle.std.specs.Prelude.{sum_by}
 use Rattle.std.specs.List.{flat_map}
 use Rattle.std.proofs.lemmas.Grind.{flat_map-append}
 use Rattle.std.proofs.lemmas.List.{map-append}
-use Rattle.std.proofs.lemmas.List.Elements.{All-tail}
+use Rattle.std.proofs.lemmas.List.Elements.{All-tail, All-weaker}
 use Rattle.std.proofs.lemmas.List.Sums.{sum_by-append, sum_by-cons, sum_by_push}
 use mathlib.Core.List.{IsPrefix}
 use Rattle.outside.specs.Port.{Packet, Try}
@@ -14,14 +14,15 @@ use Rattle.outside.specs.Streams.{StreamsTold, Talk}
 use Rattle.lane_model.specs.declared.ended.Ended.{Ended}
 use Rattle.lane_model.specs.declared.ended.Ended.TheVariants as end
 use Rattle.lane_model.specs.Lanes.{Answers, Entry}
-use Rattle.lane_model.specs.Turns.{Fate, Turn, is_refused, refused, refused_of, silent, took, tried}
+use Rattle.lane_model.specs.Turns.{AreCalm, Fate, Turn, is_calm, is_refused, refused, refused_of, silent, took, tried}
 use Rattle.lane_model.proofs.Runs.{run_longer}
 use Rattle.tcp_lane.specs.Calls.{AreRuled, IsStreamEnd, stream_failures, stream_refusals}
 use Rattle.tcp_lane.specs.Stream.{IsStreamRun}
 use Rattle.tcp_lane.specs.Turns.{IsRuled, Said, StreamCame, StreamTurn, TalkState, closing_if, lane_of, lead_of, put_for, saying, stream_after, stream_turn, turn_of, turns_of, idle, ended, missed, come, got, quiet, shut, broke}
-use Rattle.tcp_lane.proofs.Loop.{lane_more}
+use Rattle.lane_model.proofs.Calls.{calm_not_refused}
+use Rattle.name_workers.proofs.Loop.{turns_more}
 use Rattle.tcp_lane.proofs.Whole.{misses_in, turn_missed}
-use Rattle.tcp_lane.proofs.Final.{calm_free, ended_silent}
+use Rattle.tcp_lane.proofs.Took.{ended_silent}
 
 one_refused : (d : Packet) (f : Fate) → f ≡ refused → refused_of (took d f) ≡ 1
 one_refused d f is = subst (λ (k : Fate). refused_of (took d k) ≡ 1) (sym is) refl
@@ -34,9 +35,12 @@ refused_last turns log is =
     let front = lane_of is.0 ++ (lead_of t ∷ map (turn_of t.peer) b.0) in
     let last = turn_of t.peer b.1 in
     let all : lane_of log ≡ front ++ last ∷ [] =
-    (ap lane_of is.2 ∙ lane_more is.0 t) ∙ (ap (λ l. lane_of is.0 ++ (lead_of t ∷ l)) (ap (λ l. map (turn_of t.peer) l) b.2 ∙ map-append (turn_of t.peer) b.0 (b.1 ∷ [])) ∙ sym (append_assoc (lane_of is.0) (lead_of t ∷ map (turn_of t.peer) b.0) (last ∷ []))) in
+    (ap lane_of is.2 ∙ turns_more turns_of is.0 t) ∙ (ap (λ l. lane_of is.0 ++ (lead_of t ∷ l)) (ap (λ l. map (turn_of t.peer) l) b.2 ∙ map-append (turn_of t.peer) b.0 (b.1 ∷ [])) ∙ sym (append_assoc (lane_of is.0) (lead_of t ∷ map (turn_of t.peer) b.0) (last ∷ []))) in
     let count : sum_by (λ (x : Turn). refused_of x.came) (lane_of log) ≡ sum_by (λ (x : Turn). refused_of x.came) front + refused_of last.came = ap (sum_by (λ (x : Turn). refused_of x.came)) all ∙ sum_by_push (λ (x : Turn). refused_of x.came) front last in
     omega (arith, count, one_refused (record { octets = b.1.octets; from = t.peer }) b.1.fate b.4)
+
+calm_free : (log : List Turn) → AreCalm log → All (λ t. is_refused t.came ≡ false) log
+calm_free log c = All-weaker (λ (t : Turn). is_calm t.came ≡ true) (λ (t : Turn). is_refused t.came ≡ false) (λ t. calm_not_refused t.came) log c
 
 free_count : (log : List Turn) → All (λ t. is_refused t.came ≡ false) log → sum_by (λ t. refused_of t.came) log ≡ 0
 free_count [] free = refl
@@ -62,7 +66,7 @@ none_refused turns log l l' end.PortEnd r is other =
     let t = is.1 in
     let last = ruled_last is.0 t l l' (subst (λ (x : List StreamTurn). AreRuled l x l') is.2 r) in
     let none : misses_in t.peer t.said ≡ 0 = ap (misses_in t.peer) (ended_silent t last.0 last.1 is.5 last.2) in
-    let count = ap (sum_by (λ (x : Turn). refused_of x.came)) (ap lane_of is.2 ∙ lane_more is.0 t) ∙ sum_by-append (λ (x : Turn). refused_of x.came) (lane_of is.0) (turns_of t) in
+    let count = ap (sum_by (λ (x : Turn). refused_of x.came)) (ap lane_of is.2 ∙ turns_more turns_of is.0 t) ∙ sum_by-append (λ (x : Turn). refused_of x.came) (lane_of is.0) (turns_of t) in
     let before = free_count (lane_of is.0) (calm_free (lane_of is.0) is.3) in
     omega (arith, count, before, turn_missed t, none)
 

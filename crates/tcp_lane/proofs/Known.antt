@@ -9,7 +9,8 @@ use Rattle.lane_model.specs.Turns.{Fate, IsFate, entries_of_fate, tries_of_fate,
 use Rattle.lane_model.specs.Replies.{is_silent}
 use Rattle.tcp_lane.specs.Replies.{stream_replies}
 use Rattle.tcp_lane.specs.Stream.{AreKnownFrom}
-use Rattle.tcp_lane.specs.Turns.{AreKnown, Said, known_after, known_behind}
+use Rattle.name_workers.specs.Messages.{known_after}
+use Rattle.tcp_lane.specs.Turns.{AreKnown, Said, known_behind}
 
 pub behind_more : (known : ℕ) (said : List Said) (s : Said) → known_behind known (said ++ s ∷ []) ≡ known_after (known_behind known said) s.fate
 behind_more known [] s = refl

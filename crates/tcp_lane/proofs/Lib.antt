@@ -1,9 +1,7 @@
-pub mod Sessions
 pub mod Known
 pub mod Said
 pub mod Taken
-pub mod Turned
-pub mod Loop
+pub mod Took
 pub mod Talks
 pub mod Whole
 pub mod Final

@@ -1,33 +1,32 @@
 -- Messages that are taken, one after another.
-use Rattle.std.proofs.Common.{◌≡◌, ℕ, ◌+◌, ◌-◌, ◌<◌, ◌≤◌, Bool, true, false, List, [], ◌∷◌, ◌++◌, All, length, map, fold, take, Option, None, Some, refl, sym, ap, subst, ◌∙◌, arith, append_assoc, append-nil}
+use Rattle.std.proofs.Common.{◌≡◌, ℕ, ◌+◌, ◌-◌, ◌<◌, ◌≤◌, true, false, List, [], ◌∷◌, ◌++◌, length, map, fold, take, Option, None, Some, refl, sym, ap, subst, ◌∙◌, arith, append_assoc, append-nil}
 use Rattle.std.proofs.lemmas.List.{map-append}
 use Rattle.std.proofs.lemmas.List.Elements.{All-push}
 use Rattle.std.proofs.lemmas.List.Sums.{fold-append}
 use Rattle.std.proofs.lemmas.Grind.{flat_map-append}
 use Rattle.std.specs.List.{flat_map}
 use Rattle.addr_text.specs.declared.address.Peer.{Peer}
-use Rattle.outside.specs.Faults.{BothTell, DeviceState, Rose, raised}
+use Rattle.outside.specs.Faults.{BothTell, DeviceState}
 use Rattle.outside.specs.Limits.{largest_datagram}
 use Rattle.outside.specs.Streams.{StreamsTold, failing, writing}
 use Rattle.published_map.specs.Version.{Version}
 use Rattle.answer_core.specs.declared.way.Way.TheVariants.{Stream}
 use Rattle.lane_model.specs.Lanes.{following}
-use Rattle.lane_model.specs.Turns.{Turn, fails_of, took, silent, refused, tried}
-use Rattle.lane_model.specs.Calls.{Eyes, IsRise, AreTurns, IsTurn}
-use Rattle.lane_model.specs.Replies.{is_silent}
+use Rattle.lane_model.specs.Turns.{Fate, Turn, silent, refused, tried}
+use Rattle.lane_model.specs.Calls.{Eyes, AreTurns, IsTurn}
 use Rattle.tcp_lane.specs.Replies.{stream_replies}
-use Rattle.lane_model.proofs.Going.{one_more, rise_none}
+use Rattle.lane_model.proofs.Going.{one_more}
 use Rattle.lane_model.proofs.Prefixes.{prefix_length}
 use Rattle.lane_model.proofs.Runs.{turns_rises, tells_on}
-use Rattle.name_workers.specs.Worker.{IsLookRefused, IsReplied}
-use Rattle.name_workers.proofs.Eyes.{rise_refused}
-use Rattle.tcp_lane.specs.declared.answering.Fared.{Fared}
-use Rattle.tcp_lane.specs.declared.answering.Fared.TheVariants as fared
+use Rattle.name_workers.specs.Messages.{IsFared, IsFateBy, IsPut, known_after}
+use Rattle.name_workers.specs.declared.fared.Fared.{Fared}
+use Rattle.name_workers.specs.declared.fared.Fared.TheVariants as fared
+use Rattle.name_workers.proofs.Messages.{message}
 use Rattle.tcp_frames.specs.Split.{IsUnfinished, framed}
-use Rattle.tcp_lane.specs.Turns.{AreKnown, AreWell, Said, is_well, known_after, known_behind, saying, turn_of}
+use Rattle.tcp_lane.specs.Turns.{AreKnown, AreWell, Said, is_well, known_behind, put_for, saying, turn_of}
 use Rattle.tcp_lane.proofs.Known.{behind_more, known_more}
 use Rattle.tcp_lane.specs.Calls.{inner}
-use Rattle.tcp_lane.specs.Steps.{AreSaid, AreSoFar, IsAnswered, IsAnsweredBy, IsFared, is_on}
+use Rattle.tcp_lane.specs.Steps.{AreSaid, AreSoFar, IsAnswered, IsAnsweredBy, is_on, writes}
 
 tells_itself : {A : Type 0} (x : Option A) → BothTell x x (λ b c. c ≡ b)
 tells_itself None = tt
@@ -40,147 +39,31 @@ tells_out R None (Some c) r = absurd r
 tells_out R (Some b) None r = absurd r
 tells_out R (Some b) (Some c) r = (r.0, r.1)
 
-nothing_noted : (known : ℕ) → All (λ (s : ℕ). s ≤ known) []
-nothing_noted known k d lt = absurd (omega (arith, lt))
+-- streams behind a message
+put_told : (fate : Fate) (x y : Option StreamsTold) → is_well fate ≡ true → IsPut writes fate x y → (cut : ℕ) → BothTell x y (λ b c. c ≡ put_for cut b fate)
+put_told silent x y well put cut = subst (λ k. BothTell x k (λ b c. c ≡ b)) (sym put) (tells_itself x)
+put_told refused x y well put cut = absurd (cc well)
+put_told (tried serial reply true) x y well put cut = put
+put_told (tried serial reply false) x y well put cut = absurd (cc well)
 
-said_silent : (w n n' known : ℕ) (peer : Peer) (octets : List ℕ) (e f : Eyes Version) (p q : ℕ) → known + 1 ≡ length e.heard → n' ≡ following n → is_silent octets ≡ true → f ≡ e → q ≡ p
-    → IsTurn stream_replies w (turn_of peer (record { octets = octets; known = known; fate = silent })) (inner e n p) (inner f n' q)
-said_silent w n n' known peer octets e f p q is count x same faults = record {
-  gate = tt;
-  notes = tt;
-  port = tt;
-  shown = is;
-  known = omega arith;
-  noted = nothing_noted known;
-  came = x;
-  count = count;
-  eyes = subst (λ (k : Eyes Version). IsRise e k) (sym same) (rise_none e);
-  floor = omega arith;
-  knows = subst (λ (k : Eyes Version). known < length k.heard) (sym same) (omega (arith, is));
-  looks = ap (λ k. k.looks) same ∙ omega arith;
-  port_faults = omega (arith, faults);
-  port_stays = λ none. faults;
-  gate_later = omega arith;
-  refusal = λ b. absurd (cc b);
-  stays = λ b. ap (λ k. k.faults) same;
-}
+put_cut : (fate : Fate) (x y : Option StreamsTold) → IsPut writes fate x y → (cut : ℕ) × BothTell x y (λ b c. c ≡ put_for cut b fate)
+put_cut silent x y put = (0, subst (λ k. BothTell x k (λ b c. c ≡ b)) (sym put) (tells_itself x))
+put_cut refused x y put = (0, subst (λ k. BothTell x k (λ b c. c ≡ b)) (sym put) (tells_itself x))
+put_cut (tried serial reply true) x y put = (0, put)
+put_cut (tried serial reply false) x y put = tells_out (λ k b c. c ≡ failing (writing serial (take k (framed reply)) b)) x y put
 
-said_refused : (w n n' known : ℕ) (peer : Peer) (octets : List ℕ) (e f : Eyes Version) (p q : ℕ) → known + 1 ≡ length e.heard → n' ≡ following n → IsLookRefused octets e f → q ≡ p
-    → IsTurn stream_replies w (turn_of peer (record { octets = octets; known = known; fate = refused })) (inner e n p) (inner f n' q)
-said_refused w n n' known peer octets e f p q is count x faults = record {
-  gate = tt;
-  notes = tt;
-  port = tt;
-  shown = is;
-  known = omega arith;
-  noted = nothing_noted known;
-  came = x.spoken;
-  count = count;
-  eyes = rise_refused octets e f x;
-  floor = omega arith;
-  knows = subst (λ (k : List Version). known < length k) (sym x.heard) (omega (arith, is));
-  looks = x.looks;
-  port_faults = omega (arith, faults);
-  port_stays = λ none. faults;
-  gate_later = omega arith;
-  refusal = λ b. x.rose;
-  stays = λ b. absurd (cc b);
-}
+-- whether the lane goes on behind it
+well_by : (r : Fared) (fate : Fate) → is_on r ≡ true → IsFateBy r fate → is_well fate ≡ true
+well_by fared.Silent fate on e = ap is_well e
+well_by fared.Sent fate on e = ap is_well e.2
+well_by fared.Failed fate on e = absurd (cc on)
+well_by fared.Refused fate on e = absurd (cc on)
 
-said_tried : (w n n' known : ℕ) (peer : Peer) (octets : List ℕ) (serial : ℕ) (reply : List ℕ) (went : Bool) (e f : Eyes Version) (p q : ℕ) → known + 1 ≡ length e.heard → n' ≡ following n → IsReplied w n peer.addr octets Stream serial e f reply → f.looks ≡ raised e.looks 1
-    → raised p (fails_of (took (record { octets = octets; from = peer }) (tried serial reply went))) ≤ q → (fails_of (took (record { octets = octets; from = peer }) (tried serial reply went)) ≡ 0 → q ≡ p)
-    → IsTurn stream_replies w (turn_of peer (record { octets = octets; known = known; fate = tried serial reply went })) (inner e n p) (inner f n' q)
-said_tried w n n' known peer octets serial reply went e f p q is count x looks faults stays = record {
-  gate = tt;
-  notes = tt;
-  port = tt;
-  shown = is;
-  known = omega arith;
-  noted = nothing_noted known;
-  came = (x.spoken, omega (arith, is, x.fresh), x.version);
-  count = count;
-  eyes = x.rise;
-  floor = omega (arith, is, x.fresh);
-  knows = omega (arith, x.known);
-  looks = looks;
-  port_faults = faults;
-  port_stays = stays;
-  gate_later = omega arith;
-  refusal = λ b. absurd (cc b);
-  stays = λ b. x.stays;
-}
-
--- a message after which the lane goes on
-record OneOn (w n n' known : ℕ) (peer : Peer) (octets : List ℕ) (e f : Eyes Version) (p q : DeviceState StreamsTold) : Type 0 where
-  said : Said
-  octets_are : said.octets ≡ octets
-  knows : said.known ≡ known
-  behind : known_after known said.fate + 1 ≡ length f.heard
-  well : is_well said.fate ≡ true
-  turn : IsTurn stream_replies w (turn_of peer said) (inner e n p.faults) (inner f n' q.faults)
-  told : (cut : ℕ) → BothTell p.past q.past (λ b c. c ≡ saying cut b said)
-
--- a message after which it doesn't
-record OneOver (w n n' known : ℕ) (peer : Peer) (octets : List ℕ) (r : Fared) (e f : Eyes Version) (p q : DeviceState StreamsTold) : Type 0 where
-  said : Said
-  octets_are : said.octets ≡ octets
-  knows : said.known ≡ known
-  behind : known_after known said.fate + 1 ≡ length f.heard
-  cut : ℕ
-  turn : IsTurn stream_replies w (turn_of peer said) (inner e n p.faults) (inner f n' q.faults)
-  told : BothTell p.past q.past (λ b c. c ≡ saying cut b said)
-  over : (before : List Said) → AreWell before → IsAnsweredBy r (before ++ said ∷ []) []
-
-rose_from : (x z : ℕ) → Rose x z → raised x 1 ≤ z
-rose_from x z r = r
-
-one_on : (w n n' known : ℕ) (peer : Peer) (octets : List ℕ) (r : Fared) (e f : Eyes Version) (p q : DeviceState StreamsTold) → known + 1 ≡ length e.heard → n' ≡ following n → IsFared w n peer.addr octets r e f p q → is_on r ≡ true → OneOn w n n' known peer octets e f p q
-one_on w n n' known peer octets fared.Silent e f p q is count x on = record {
-  said = record { octets = octets; known = known; fate = silent };
-  octets_are = refl;
-  knows = refl;
-  behind = is ∙ sym (ap (λ k. length k.heard) x.1);
-  well = refl;
-  turn = said_silent w n n' known peer octets e f p.faults q.faults is count x.0 x.1 (ap (λ k. k.faults) x.2);
-  told = λ cut. subst (λ (k : DeviceState StreamsTold). BothTell p.past k.past (λ b c. c ≡ b)) (sym x.2) (tells_itself p.past);
-}
-one_on w n n' known peer octets fared.Sent e f p q is count x on = record {
-  said = record { octets = octets; known = known; fate = tried x.0 x.1 true };
-  octets_are = refl;
-  knows = refl;
-  behind = sym x.2.known;
-  well = refl;
-  turn = said_tried w n n' known peer octets x.0 x.1 true e f p.faults q.faults is count x.2 x.3 (omega (arith, x.5)) (λ none. x.5);
-  told = λ cut. x.4;
-}
-one_on w n n' known peer octets fared.Failed e f p q is count x on = absurd (cc on)
-one_on w n n' known peer octets fared.Refused e f p q is count x on = absurd (cc on)
-
-one_over : (w n n' known : ℕ) (peer : Peer) (octets : List ℕ) (r : Fared) (e f : Eyes Version) (p q : DeviceState StreamsTold) → known + 1 ≡ length e.heard → n' ≡ following n → IsFared w n peer.addr octets r e f p q → is_on r ≡ false → OneOver w n n' known peer octets r e f p q
-one_over w n n' known peer octets fared.Silent e f p q is count x off = absurd (cc off)
-one_over w n n' known peer octets fared.Sent e f p q is count x off = absurd (cc off)
-one_over w n n' known peer octets fared.Failed e f p q is count x off =
-    let out = tells_out (λ k b c. c ≡ failing (writing x.0 (take k (framed x.1)) b)) p.past q.past x.4 in
-    record {
-      said = record { octets = octets; known = known; fate = tried x.0 x.1 false };
-      octets_are = refl;
-      knows = refl;
-      behind = sym x.2.known;
-      cut = out.0;
-      turn = said_tried w n n' known peer octets x.0 x.1 false e f p.faults q.faults is count x.2 x.3 (rose_from p.faults q.faults x.5) (λ none. absurd (omega (arith, none)));
-      told = out.1;
-      over = λ before well. (before, record { octets = octets; known = known; fate = tried x.0 x.1 false }, refl, well, (x.0, x.1, refl));
-    }
-one_over w n n' known peer octets fared.Refused e f p q is count x off = record {
-  said = record { octets = octets; known = known; fate = refused };
-  octets_are = refl;
-  knows = refl;
-  behind = is ∙ sym (ap (λ k. length k) x.0.heard);
-  cut = 0;
-  turn = said_refused w n n' known peer octets e f p.faults q.faults is count x.0 (ap (λ k. k.faults) x.1);
-  told = subst (λ (k : DeviceState StreamsTold). BothTell p.past k.past (λ b c. c ≡ b)) (sym x.1) (tells_itself p.past);
-  over = λ before well. (before, record { octets = octets; known = known; fate = refused }, refl, well, refl);
-}
+over_by : (r : Fared) (before : List Said) (s : Said) (rest : List ℕ) → is_on r ≡ false → IsFateBy r s.fate → AreWell before → IsAnsweredBy r (before ++ s ∷ []) rest
+over_by fared.Silent before s rest off e well = absurd (cc off)
+over_by fared.Sent before s rest off e well = absurd (cc off)
+over_by fared.Failed before s rest off e well = (before, s, refl, well, e)
+over_by fared.Refused before s rest off e well = (before, s, refl, well, e)
 
 pub so_far_none : (w n : ℕ) (peer : Peer) (octets : List ℕ) (e : Eyes Version) (p : DeviceState StreamsTold) → AreSoFar w n n peer octets octets e e p p
 so_far_none w n peer octets e p = record { said = []; are_said = λ cut. record { session = refl; told = tells_itself p.past; known = λ k is. (tt, is) }; parts = refl; short = λ k d lt. absurd (omega (arith, lt)); well = λ k d lt. absurd (omega (arith, lt)) }
@@ -204,9 +87,9 @@ said_more w n n1 n2 peer said cut s e f g p q r are turn told is behind = record
   known = λ k first. known_on k said s (length f.heard) (length g.heard) (are.known k first) is behind;
 }
 
-parts_more : (octets rest behind : List ℕ) (said : List Said) (s : Said) (m : List ℕ) → octets ≡ flat_map (λ x. framed x.octets) said ++ rest → rest ≡ framed m ++ behind → s.octets ≡ m → octets ≡ flat_map (λ x. framed x.octets) (said ++ s ∷ []) ++ behind
-parts_more octets rest behind said s m p q is =
-    p ∙ (ap (λ l. flat_map (λ x. framed x.octets) said ++ l) (q ∙ ap (λ l. framed l ++ behind) (sym is))
+parts_more : (octets rest behind : List ℕ) (said : List Said) (s : Said) → octets ≡ flat_map (λ x. framed x.octets) said ++ rest → rest ≡ framed s.octets ++ behind → octets ≡ flat_map (λ x. framed x.octets) (said ++ s ∷ []) ++ behind
+parts_more octets rest behind said s p q =
+    p ∙ (ap (λ l. flat_map (λ x. framed x.octets) said ++ l) q
     ∙ (sym (append_assoc (flat_map (λ x. framed x.octets) said) (framed s.octets) behind)
     ∙ ap (λ l. l ++ behind) (ap (λ l. flat_map (λ x. framed x.octets) said ++ l) (sym (append-nil (framed s.octets))) ∙ sym (flat_map-append (λ x. framed x.octets) said (s ∷ [])))))
 
@@ -216,47 +99,39 @@ still_some w n n1 peer octets rest e f p q some so =
     let le = prefix_length e.heard f.heard rise.heard in
     omega (arith, some, le)
 
-known_told : (a b c : ℕ) → a ≡ b → b + 1 ≡ c → a + 1 ≡ c
-known_told a b c p q = ap (λ x. x + 1) p ∙ q
-
-behind_told : (s : Said) (known after : ℕ) → s.known ≡ known → known_after known s.fate + 1 ≡ after → known_after s.known s.fate + 1 ≡ after
-behind_told s known after p q = ap (λ x. known_after x s.fate + 1) p ∙ q
-
 -- the lane goes on with the conversation
 pub so_far_more : (w w' n n1 n2 : ℕ) (peer : Peer) (octets rest behind m : List ℕ) (r : Fared) (e f g : Eyes Version) (p q v : DeviceState StreamsTold) → 0 < length e.heard → w' ≡ w → n2 ≡ following n1 → AreSoFar w n n1 peer octets rest e f p q
-    → rest ≡ framed m ++ behind → length m ≤ largest_datagram → IsFared w' n1 peer.addr m r f g q v → is_on r ≡ true → AreSoFar w n n2 peer octets behind e g p v
+    → rest ≡ framed m ++ behind → length m ≤ largest_datagram → IsFared writes Stream w' n1 peer.addr m r f g q v → is_on r ≡ true → AreSoFar w n n2 peer octets behind e g p v
 so_far_more w w' n n1 n2 peer octets rest behind m r e f g p q v some same count so parts short x on =
-    let some_now = still_some w n n1 peer octets rest e f p q some so in
-    let one = one_on w n1 n2 (length f.heard - 1) peer m r f g q v some_now count (subst (λ (k : ℕ). IsFared k n1 peer.addr m r f g q v) same x) on in
+    let now = still_some w n n1 peer octets rest e f p q some so in
+    let one = message writes Stream w n1 n2 (length f.heard - 1) peer m r f g q v now count (subst (λ (k : ℕ). IsFared writes Stream k n1 peer.addr m r f g q v) same x) in
+    let s : Said = record { octets = m; known = length f.heard - 1; fate = one.fate } in
+    let well = well_by r one.fate on one.fate_is in
     record {
-      said = so.said ++ one.said ∷ [];
-      are_said = λ cut. said_more w n n1 n2 peer so.said cut one.said e f g p q v (so.are_said cut) one.turn (one.told cut) (known_told one.said.known (length f.heard - 1) (length f.heard) one.knows some_now) (behind_told one.said (length f.heard - 1) (length g.heard) one.knows one.behind);
-      parts = parts_more octets rest behind so.said one.said m so.parts parts one.octets_are;
-      short = All-push (λ (s : Said). length s.octets ≤ largest_datagram) so.said one.said so.short (omega (arith, ap length one.octets_are, short));
-      well = All-push (λ (s : Said). is_well s.fate ≡ true) so.said one.said so.well one.well;
+      said = so.said ++ s ∷ [];
+      are_said = λ cut. said_more w n n1 n2 peer so.said cut s e f g p q v (so.are_said cut) one.turn (put_told one.fate q.past v.past well one.put cut) now one.behind;
+      parts = parts_more octets rest behind so.said s so.parts parts;
+      short = All-push (λ (y : Said). length y.octets ≤ largest_datagram) so.said s so.short short;
+      well = All-push (λ (y : Said). is_well y.fate ≡ true) so.said s so.well well;
     }
-
-any_rest : (r : Fared) (said : List Said) (rest : List ℕ) → is_on r ≡ false → IsAnsweredBy r said [] → IsAnsweredBy r said rest
-any_rest fared.Silent said rest off x = absurd (cc off)
-any_rest fared.Sent said rest off x = absurd (cc off)
-any_rest fared.Failed said rest off x = x
-any_rest fared.Refused said rest off x = x
 
 -- it doesn't
 pub answered_over : (w w' n n1 n2 : ℕ) (peer : Peer) (octets rest behind m : List ℕ) (r : Fared) (e f g : Eyes Version) (p q v : DeviceState StreamsTold) → 0 < length e.heard → w' ≡ w → n2 ≡ following n1 → AreSoFar w n n1 peer octets rest e f p q
-    → rest ≡ framed m ++ behind → length m ≤ largest_datagram → IsFared w' n1 peer.addr m r f g q v → is_on r ≡ false → IsAnswered w n n2 peer octets behind r e g p v
+    → rest ≡ framed m ++ behind → length m ≤ largest_datagram → IsFared writes Stream w' n1 peer.addr m r f g q v → is_on r ≡ false → IsAnswered w n n2 peer octets behind r e g p v
 answered_over w w' n n1 n2 peer octets rest behind m r e f g p q v some same count so parts short x off =
-    let some_now = still_some w n n1 peer octets rest e f p q some so in
-    let one = one_over w n1 n2 (length f.heard - 1) peer m r f g q v some_now count (subst (λ (k : ℕ). IsFared k n1 peer.addr m r f g q v) same x) off in
+    let now = still_some w n n1 peer octets rest e f p q some so in
+    let one = message writes Stream w n1 n2 (length f.heard - 1) peer m r f g q v now count (subst (λ (k : ℕ). IsFared writes Stream k n1 peer.addr m r f g q v) same x) in
+    let s : Said = record { octets = m; known = length f.heard - 1; fate = one.fate } in
+    let put = put_cut one.fate q.past v.past one.put in
     record {
       first = length e.heard - 1;
       first_is = omega (arith, some);
-      said = so.said ++ one.said ∷ [];
-      cut = one.cut;
-      are_said = said_more w n n1 n2 peer so.said one.cut one.said e f g p q v (so.are_said one.cut) one.turn one.told (known_told one.said.known (length f.heard - 1) (length f.heard) one.knows some_now) (behind_told one.said (length f.heard - 1) (length g.heard) one.knows one.behind);
-      parts = parts_more octets rest behind so.said one.said m so.parts parts one.octets_are;
-      short = All-push (λ (s : Said). length s.octets ≤ largest_datagram) so.said one.said so.short (omega (arith, ap length one.octets_are, short));
-      by = any_rest r (so.said ++ one.said ∷ []) behind off (one.over so.said so.well);
+      said = so.said ++ s ∷ [];
+      cut = put.0;
+      are_said = said_more w n n1 n2 peer so.said put.0 s e f g p q v (so.are_said put.0) one.turn put.1 now one.behind;
+      parts = parts_more octets rest behind so.said s so.parts parts;
+      short = All-push (λ (y : Said). length y.octets ≤ largest_datagram) so.said s so.short short;
+      by = over_by r so.said s behind off one.fate_is so.well;
     }
 
 -- no whole message is left

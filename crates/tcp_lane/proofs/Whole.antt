@@ -21,8 +21,10 @@ use Rattle.lane_model.specs.Replies.{is_silent}
 use Rattle.tcp_lane.specs.Replies.{stream_replies}
 use Rattle.tcp_frames.specs.Split.{framed}
 use Rattle.tcp_lane.specs.Stream.{AreKnownFrom, Conversation, IsStreamRun, IsTalk}
-use Rattle.tcp_lane.specs.Turns.{AreWell, StreamCame, IsLeft, AreKnown, IsOver, IsRuled, PieceEnd, Said, StreamTurn, TalkState, lane_came, closing_if, stream_after, is_closed_by, is_well, known_after, lane_of, lead_of, saying, stream_turn, turn_of, turns_of, idle, ended, missed, come, got, quiet, shut, broke, on, long, lost, blind}
-use Rattle.tcp_lane.specs.Calls.{IsStreamSession, IsStreamTurn, StreamMoment, inner, stream_refusals}
+use Rattle.name_workers.specs.Messages.{known_after}
+use Rattle.tcp_lane.specs.Turns.{AreWell, StreamCame, IsLeft, AreKnown, IsOver, IsRuled, PieceEnd, Said, StreamTurn, TalkState, lane_came, closing_if, stream_after, is_closed_by, is_well, lane_of, lead_of, saying, stream_turn, turn_of, turns_of, idle, ended, missed, come, got, quiet, shut, broke, on, long, lost, blind}
+use Rattle.tcp_lane.specs.Calls.{stream_refusals}
+use Rattle.tcp_lane.specs.Steps.{AreHeld}
 use Rattle.tcp_lane.proofs.Known.{one_at}
 use Rattle.tcp_lane.proofs.Talks.{IsNew, IsOpenTalk, blind_of, entries_in, lost_of, open_more, packet_of, put_all, puts, said_kept, tries_in, whole_of}
 
@@ -363,29 +365,29 @@ misses_of log = sum_by (λ (x : Turn). refused_of x.came) log
 pub turn_missed : (t : StreamTurn) → misses_of (turns_of t) ≡ misses_in t.peer t.said
 turn_missed t = let count = sum_by-cons (λ (x : Turn). refused_of x.came) (lead_of t) (map (turn_of t.peer) t.said) in omega (arith, count, lead_missed t.came)
 
-turn_then : (w : ℕ) (t : StreamTurn) (m m' : StreamMoment Version) (b0 b : StreamsTold) (taken : List Entry) (tries : List Try) (misses : ℕ) → IsStreamTurn stream_replies w t m m' → IsByThen b0 b m.talk taken tries misses
-    → IsByThen b0 (stream_turn b t) m'.talk (taken ++ entries_of Stream (turns_of t)) (tries ++ tries_of (turns_of t)) (misses + misses_of (turns_of t))
-turn_then w t m m' b0 b taken tries misses q i =
-    let r = ruled_then t.came b0 b t m.talk m'.talk taken tries misses w q.session.0 (inner m'.eyes m'.count m'.stream_faults) i q.ruled q.session.2 in
-    subst (λ (x : List Entry). IsByThen b0 (stream_turn b t) m'.talk (taken ++ x) (tries ++ tries_of (turns_of t)) (misses + misses_of (turns_of t))) (sym (turn_entries t))
-    (subst (λ (x : List Try). IsByThen b0 (stream_turn b t) m'.talk (taken ++ entries_in t.peer t.said) (tries ++ x) (misses + misses_of (turns_of t))) (sym (turn_tries t))
-    (subst (λ (x : ℕ). IsByThen b0 (stream_turn b t) m'.talk (taken ++ entries_in t.peer t.said) (tries ++ tries_in t.peer t.said) (misses + x)) (sym (turn_missed t)) r))
+turn_then : (w : ℕ) (t : StreamTurn) (l l' : TalkState) (m m' : Moment Version) (b0 b : StreamsTold) (taken : List Entry) (tries : List Try) (misses : ℕ) → IsRuled t.came l t l' → AreTurns stream_replies w (map (turn_of t.peer) t.said) m m' → IsByThen b0 b l taken tries misses
+    → IsByThen b0 (stream_turn b t) l' (taken ++ entries_of Stream (turns_of t)) (tries ++ tries_of (turns_of t)) (misses + misses_of (turns_of t))
+turn_then w t l l' m m' b0 b taken tries misses ruled session i =
+    let r = ruled_then t.came b0 b t l l' taken tries misses w m m' i ruled session in
+    subst (λ (x : List Entry). IsByThen b0 (stream_turn b t) l' (taken ++ x) (tries ++ tries_of (turns_of t)) (misses + misses_of (turns_of t))) (sym (turn_entries t))
+    (subst (λ (x : List Try). IsByThen b0 (stream_turn b t) l' (taken ++ entries_in t.peer t.said) (tries ++ x) (misses + misses_of (turns_of t))) (sym (turn_tries t))
+    (subst (λ (x : ℕ). IsByThen b0 (stream_turn b t) l' (taken ++ entries_in t.peer t.said) (tries ++ tries_in t.peer t.said) (misses + x)) (sym (turn_missed t)) r))
 
-turns_then : (w : ℕ) (log : List StreamTurn) (m m' : StreamMoment Version) (b0 b : StreamsTold) (taken : List Entry) (tries : List Try) (misses : ℕ) → IsStreamSession stream_replies w log m m' → IsByThen b0 b m.talk taken tries misses
-    → IsByThen b0 (fold stream_turn b log) m'.talk (taken ++ entries_of Stream (lane_of log)) (tries ++ tries_of (lane_of log)) (misses + stream_refusals log)
-turns_then w [] m m' b0 b taken tries misses s i = subst (λ (l : TalkState). IsByThen b0 b l (taken ++ []) (tries ++ []) (misses + 0)) (sym (ap (λ k. k.talk) s)) (more_nothing b0 b m.talk taken tries misses i)
-turns_then w (t ∷ log) m m' b0 b taken tries misses s i =
-    let one = turn_then w t m s.0 b0 b taken tries misses s.1 i in
-    let rest = turns_then w log s.0 m' b0 (stream_turn b t) (taken ++ entries_of Stream (turns_of t)) (tries ++ tries_of (turns_of t)) (misses + misses_of (turns_of t)) s.2 one in
+turns_then : (w : ℕ) (log : List StreamTurn) (l l' : TalkState) (b0 b : StreamsTold) (taken : List Entry) (tries : List Try) (misses : ℕ) → AreHeld w log l l' → IsByThen b0 b l taken tries misses
+    → IsByThen b0 (fold stream_turn b log) l' (taken ++ entries_of Stream (lane_of log)) (tries ++ tries_of (lane_of log)) (misses + stream_refusals log)
+turns_then w [] l l' b0 b taken tries misses s i = subst (λ (x : TalkState). IsByThen b0 b x (taken ++ []) (tries ++ []) (misses + 0)) (sym s) (more_nothing b0 b l taken tries misses i)
+turns_then w (t ∷ log) l l' b0 b taken tries misses s i =
+    let one = turn_then w t l s.0 s.2.0 s.2.1 b0 b taken tries misses s.1 s.2.2 i in
+    let rest = turns_then w log s.0 l' b0 (stream_turn b t) (taken ++ entries_of Stream (turns_of t)) (tries ++ tries_of (turns_of t)) (misses + misses_of (turns_of t)) s.3 one in
     let parts : misses_of (lane_of (t ∷ log)) ≡ misses_of (turns_of t) + misses_of (lane_of log) = sum_by-append (λ (x : Turn). refused_of x.came) (turns_of t) (lane_of log) in
     let count : (misses + misses_of (turns_of t)) + stream_refusals log ≡ misses + stream_refusals (t ∷ log) = omega (arith, parts) in
     let entries : (taken ++ entries_of Stream (turns_of t)) ++ entries_of Stream (lane_of log) ≡ taken ++ entries_of Stream (lane_of (t ∷ log)) =
     append_assoc taken (entries_of Stream (turns_of t)) (entries_of Stream (lane_of log)) ∙ ap (λ x. taken ++ x) (sym (flat_map-append (λ (x : Turn). entries_of_came Stream x.known x.came) (turns_of t) (lane_of log))) in
     let mine : (tries ++ tries_of (turns_of t)) ++ tries_of (lane_of log) ≡ tries ++ tries_of (lane_of (t ∷ log)) =
     append_assoc tries (tries_of (turns_of t)) (tries_of (lane_of log)) ∙ ap (λ x. tries ++ x) (sym (flat_map-append (λ (x : Turn). tries_of_came x.came) (turns_of t) (lane_of log))) in
-    subst (λ (x : List Entry). IsByThen b0 (fold stream_turn b (t ∷ log)) m'.talk x (tries ++ tries_of (lane_of (t ∷ log))) (misses + stream_refusals (t ∷ log))) entries
-    (subst (λ (x : List Try). IsByThen b0 (fold stream_turn b (t ∷ log)) m'.talk ((taken ++ entries_of Stream (turns_of t)) ++ entries_of Stream (lane_of log)) x (misses + stream_refusals (t ∷ log))) mine
-    (subst (λ (x : ℕ). IsByThen b0 (fold stream_turn b (t ∷ log)) m'.talk ((taken ++ entries_of Stream (turns_of t)) ++ entries_of Stream (lane_of log)) ((tries ++ tries_of (turns_of t)) ++ tries_of (lane_of log)) x) count rest))
+    subst (λ (x : List Entry). IsByThen b0 (fold stream_turn b (t ∷ log)) l' x (tries ++ tries_of (lane_of (t ∷ log))) (misses + stream_refusals (t ∷ log))) entries
+    (subst (λ (x : List Try). IsByThen b0 (fold stream_turn b (t ∷ log)) l' ((taken ++ entries_of Stream (turns_of t)) ++ entries_of Stream (lane_of log)) x (misses + stream_refusals (t ∷ log))) mine
+    (subst (λ (x : ℕ). IsByThen b0 (fold stream_turn b (t ∷ log)) l' ((taken ++ entries_of Stream (turns_of t)) ++ entries_of Stream (lane_of log)) ((tries ++ tries_of (turns_of t)) ++ tries_of (lane_of log)) x) count rest))
 
 -- all conversations, where none is open
 run_shut : {V : Type 0} (a : Answers V) (h : List V) (w n floor misses : ℕ) (b0 b : StreamsTold) (l : TalkState) (taken : List Entry) (tries : List Try) → l.is_open ≡ false → a.silent ≡ is_silent → IsByThen b0 b l taken tries misses → IsLaneRun a h w n floor taken tries
@@ -418,9 +420,9 @@ run_by false a h w n floor misses b0 b l taken tries is quiet_is i run = run_shu
 all_missed : (n : ℕ) → 0 + n ≡ n
 all_missed n = omega arith
 
-pub runs_of : (w floor : ℕ) (log : List StreamTurn) (m m' : StreamMoment Version) (b : StreamsTold) → IsStreamSession stream_replies w log m m' → m.talk.is_open ≡ false → b.current ≡ None → IsLaneRun stream_replies m'.eyes.seen w m.count floor (entries_of Stream (lane_of log)) (tries_of (lane_of log))
-    → (talks : List Talk) × ((closing_if m'.talk.is_open (fold stream_turn b log)).closed ≡ b.closed ++ talks) × ((closing_if m'.talk.is_open (fold stream_turn b log)).current ≡ None) × IsStreamRun stream_replies m'.eyes.seen w m.count floor (stream_refusals log) talks (entries_of Stream (lane_of log)) (tries_of (lane_of log))
-runs_of w floor log m m' b s is none run =
-    let first = at_first b m.talk is none in
-    let i = subst (λ (x : ℕ). IsByThen b (fold stream_turn b log) m'.talk (entries_of Stream (lane_of log)) (tries_of (lane_of log)) x) (all_missed (stream_refusals log)) (turns_then w log m m' b b [] [] 0 s first) in
-    run_by m'.talk.is_open stream_replies m'.eyes.seen w m.count floor (stream_refusals log) b (fold stream_turn b log) m'.talk (entries_of Stream (lane_of log)) (tries_of (lane_of log)) refl refl i run
+pub runs_of : (w n floor : ℕ) (h : List Version) (log : List StreamTurn) (l l' : TalkState) (b : StreamsTold) → AreHeld w log l l' → l.is_open ≡ false → b.current ≡ None → IsLaneRun stream_replies h w n floor (entries_of Stream (lane_of log)) (tries_of (lane_of log))
+    → (talks : List Talk) × ((closing_if l'.is_open (fold stream_turn b log)).closed ≡ b.closed ++ talks) × ((closing_if l'.is_open (fold stream_turn b log)).current ≡ None) × IsStreamRun stream_replies h w n floor (stream_refusals log) talks (entries_of Stream (lane_of log)) (tries_of (lane_of log))
+runs_of w n floor h log l l' b s is none run =
+    let first = at_first b l is none in
+    let i = subst (λ (x : ℕ). IsByThen b (fold stream_turn b log) l' (entries_of Stream (lane_of log)) (tries_of (lane_of log)) x) (all_missed (stream_refusals log)) (turns_then w log l l' b b [] [] 0 s first) in
+    run_by l'.is_open stream_replies h w n floor (stream_refusals log) b (fold stream_turn b log) l' (entries_of Stream (lane_of log)) (tries_of (lane_of log)) refl refl i run

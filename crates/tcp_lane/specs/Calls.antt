@@ -1,17 +1,16 @@
 -- What one call of a stream lane does.
 use Rattle.std.specs.Prelude.{◌≡◌, ℕ, ◌+◌, ◌<◌, ◌≤◌, Bool, List, [], ◌∷◌, ◌++◌, length, map, fold, sum_by, Option, None}
 use Rattle.outside.specs.Faults.{BothTell}
-use Rattle.outside.specs.Gate.{GateTold, IsTurning, going}
-use Rattle.outside.specs.declared.gate.Turning.TheVariants.{Stop}
+use Rattle.outside.specs.Gate.{GateTold}
 use Rattle.outside.specs.Notes.{NotesTold}
 use Rattle.outside.specs.Streams.{StreamsTold, Talk}
 use Rattle.lane_model.specs.declared.ended.Ended.{Ended}
 use Rattle.lane_model.specs.declared.ended.Ended.TheVariants as end
 use Rattle.lane_model.specs.Lanes.{Answers}
-use Rattle.lane_model.specs.Turns.{AreCalm, AreGiven, IsGiven, entries_of, failures, refused, refused_of, tries_of}
-use Rattle.lane_model.specs.Calls.{Eyes, IsGateRun, IsLaneLog, AreTurns, Moment}
+use Rattle.lane_model.specs.Turns.{AreCalm, entries_of, failures, notes_turn, refused, refused_of, tries_of}
+use Rattle.lane_model.specs.Calls.{Eyes, IsGateRun, IsLaneLog, Moment}
 use Rattle.tcp_lane.specs.Stream.{IsStreamRun}
-use Rattle.tcp_lane.specs.Turns.{IsBroken, IsRuled, StreamTurn, TalkState, closing_if, ended, lane_of, lead_of, stream_turn, turns_of}
+use Rattle.tcp_lane.specs.Turns.{IsBroken, IsRuled, StreamTurn, TalkState, closing_if, ended, lane_of, lead_of, stream_turn}
 
 -- a lane at one moment: what its streams, gate and notes tell; its viewer and door; the number of the next message; the counts of faults; and its conversation
 pub record StreamMoment (V : Type 0) : Type 0 where
@@ -27,37 +26,6 @@ pub record StreamMoment (V : Type 0) : Type 0 where
 -- a viewer and its door, the number of the next message, and a count of faults, as a moment of a lane whose port, gate and notes tell nothing
 abbrev pub inner : {V : Type 0} → Eyes V → ℕ → ℕ → Moment V
 inner eyes count faults = record { port = None; gate = None; notes = None; eyes = eyes; count = count; port_faults = faults; gate_faults = 0 }
-
--- one turn
-pub record IsStreamTurn {V : Type 0} (a : Answers V) (w : ℕ) (t : StreamTurn) (m m' : StreamMoment V) : Type 0 where
-  pub gate : BothTell m.gate m'.gate (λ b c. c ≡ going t.shown b)
-  pub notes : BothTell m.notes m'.notes (IsGiven t.notes)
-  pub streams : BothTell m.streams m'.streams (λ b c. c ≡ stream_turn b t)
-  pub session : AreTurns a w (turns_of t) (inner m.eyes m.count m.stream_faults) (inner m'.eyes m'.count m'.stream_faults)
-  pub gate_later : m.gate_faults ≤ m'.gate_faults
-  pub ruled : IsRuled t.came m.talk t m'.talk
-
--- some turns, one after the other
-abbrev pub IsStreamSession : {V : Type 0} → Answers V → ℕ → List StreamTurn → StreamMoment V → StreamMoment V → Type 0
-IsStreamSession a w [] m m' = m' ≡ m
-IsStreamSession {V = V} a w (t ∷ log) m m' = (mid : StreamMoment V) × IsStreamTurn a w t m mid × IsStreamSession a w log mid m'
-
--- the gate answered Stop, and nothing else was asked
-pub record IsStreamStop {V : Type 0} (m m' : StreamMoment V) : Type 0 where
-  pub shown : ℕ
-  pub is_known : shown + 1 ≡ length m.eyes.heard
-  pub gate : BothTell m.gate m'.gate (IsTurning shown Stop)
-  pub later : m.gate_faults ≤ m'.gate_faults
-  pub rest : m' ≡ record m { gate = m'.gate; gate_faults = m'.gate_faults }
-
--- after the last turn a Stop, or nothing
-abbrev pub IsStreamLast : {V : Type 0} → Ended → StreamMoment V → StreamMoment V → Type 0
-IsStreamLast end.Stopped m m' = IsStreamStop m m'
-IsStreamLast end.PortEnd m m' = m' ≡ m
-IsStreamLast end.PortFault m m' = m' ≡ m
-IsStreamLast end.CellFault m m' = m' ≡ m
-IsStreamLast (end.Above known newest) m m' = m' ≡ m
-IsStreamLast end.Spent m m' = m' ≡ m
 
 -- how many calls of the streams failed in some turns
 abbrev pub stream_failures : List StreamTurn → ℕ
@@ -89,7 +57,7 @@ pub record IsStreamCall {V : Type 0} (a : Answers V) (w turns : ℕ) (m m' : Str
   pub shown_is : shown + 1 ≡ length m'.eyes.heard
   pub all : IsLaneLog a w (lane_of log) (inner m.eyes m.count m.stream_faults) (inner m'.eyes m'.count m'.stream_faults)
   pub streams : BothTell m.streams m'.streams (λ b c. c ≡ closing_if closes (fold stream_turn b log))
-  pub notes : BothTell m.notes m'.notes (AreGiven (map lead_of log))
+  pub notes : BothTell m.notes m'.notes (λ b c. c ≡ fold notes_turn b (map lead_of log))
   pub gate : BothTell m.gate m'.gate (IsGateRun shown (map lead_of log) result)
   pub runs : (b : StreamsTold) → b.current ≡ None → (floor : ℕ) → floor < length m.eyes.heard
       → (talks : List Talk) × ((closing_if closes (fold stream_turn b log)).closed ≡ b.closed ++ talks) × ((closing_if closes (fold stream_turn b log)).current ≡ None)

@@ -1,33 +1,28 @@
 -- Inside this crate alone: the steps of a stream lane's turn.
-use Rattle.std.specs.Prelude.{◌≡◌, ℕ, ◌+◌, ◌<◌, ◌≤◌, ◌⊎◌, Bool, true, false, List, [], ◌++◌, All, length, map, take, fold, Option}
+use Rattle.std.specs.Prelude.{◌≡◌, ℕ, ◌+◌, ◌<◌, ◌≤◌, ◌⊎◌, Bool, true, false, List, [], ◌∷◌, ◌++◌, All, length, map, take, fold}
 use Rattle.std.specs.List.{flat_map}
-use Rattle.addr_text.specs.declared.address.Addr.{Addr}
 use Rattle.addr_text.specs.declared.address.Peer.{Peer}
-use Rattle.outside.specs.Faults.{BothTell, DeviceState, Rose, raised}
+use Rattle.outside.specs.Faults.{BothTell, DeviceState, raised}
 use Rattle.outside.specs.Limits.{largest_datagram}
 use Rattle.outside.specs.Streams.{StreamsTold, failing, writing}
 use Rattle.tcp_frames.specs.Split.{IsUnfinished, framed}
 use Rattle.published_map.specs.Version.{Version}
 use Rattle.answer_core.specs.declared.way.Way.TheVariants.{Stream}
-use Rattle.lane_model.specs.declared.ended.Ended.{Ended}
-use Rattle.lane_model.specs.Turns.{AreCalm, failures, fails_of, is_calm, refused, tried}
-use Rattle.lane_model.specs.Calls.{Eyes, AreTurns}
-use Rattle.lane_model.specs.Replies.{is_silent}
-use Rattle.name_workers.specs.Worker.{IsLookRefused, IsReplied}
+use Rattle.lane_model.specs.Turns.{fails_of, is_calm, refused, tried}
+use Rattle.lane_model.specs.Calls.{Eyes, AreTurns, Moment}
+use Rattle.name_workers.specs.Loop.{Taking}
 use Rattle.name_workers.specs.declared.ending.Step.{Step}
 use Rattle.name_workers.specs.declared.ending.Step.TheVariants as step
-use Rattle.tcp_lane.specs.declared.answering.Fared.{Fared}
-use Rattle.tcp_lane.specs.declared.answering.Fared.TheVariants as fared
+use Rattle.name_workers.specs.declared.fared.Fared.{Fared}
+use Rattle.name_workers.specs.declared.fared.Fared.TheVariants as fared
 use Rattle.tcp_lane.specs.Replies.{stream_replies}
-use Rattle.tcp_lane.specs.Turns.{AreKnown, AreWell, StreamCame, IsBroken, IsPiece, IsRuled, Said, StreamTurn, TalkState, lane_came, closing_if, ended, got, stream_after, known_behind, lane_of, saying, stream_turn, turn_of}
-use Rattle.tcp_lane.specs.Calls.{IsStreamEnd, IsStreamLast, IsStreamSession, IsStreamStop, IsStreamTurn, StreamMoment, inner}
+use Rattle.tcp_lane.specs.Turns.{AreKnown, AreWell, StreamCame, IsBroken, IsPiece, IsRuled, Said, StreamTurn, TalkState, lane_came, closing_if, ended, got, stream_after, known_behind, lead_of, no_talk, saying, stream_turn, turn_of}
+use Rattle.tcp_lane.specs.Calls.{inner}
 
--- what became of a message: the streams' count rose where the reply was not written, and else stands
-abbrev pub IsFared : ℕ → ℕ → Addr → List ℕ → Fared → Eyes Version → Eyes Version → DeviceState StreamsTold → DeviceState StreamsTold → Type 0
-IsFared w n from octets fared.Silent e f p q = (is_silent octets ≡ true) × (f ≡ e) × (q ≡ p)
-IsFared w n from octets fared.Refused e f p q = IsLookRefused octets e f × (q ≡ p)
-IsFared w n from octets fared.Sent e f p q = (serial : ℕ) × (reply : List ℕ) × IsReplied w n from octets Stream serial e f reply × (f.looks ≡ raised e.looks 1) × BothTell p.past q.past (λ b c. c ≡ writing serial (framed reply) b) × (q.faults ≡ p.faults)
-IsFared w n from octets fared.Failed e f p q = (serial : ℕ) × (reply : List ℕ) × IsReplied w n from octets Stream serial e f reply × (f.looks ≡ raised e.looks 1) × BothTell p.past q.past (λ b c. (k : ℕ) × (c ≡ failing (writing serial (take k (framed reply)) b))) × Rose p.faults q.faults
+-- what the try of a reply does to streams: where it did not go, its first octets were written
+abbrev pub writes : ℕ → List ℕ → Bool → StreamsTold → StreamsTold → Type 0
+writes serial reply true b c = c ≡ writing serial (framed reply) b
+writes serial reply false b c = (k : ℕ) × (c ≡ failing (writing serial (take k (framed reply)) b))
 
 -- the lane goes on with the conversation
 abbrev pub is_on : Fared → Bool
@@ -72,13 +67,13 @@ pub record AreSoFar (w n n' : ℕ) (peer : Peer) (octets rest : List ℕ) (e f :
 abbrev pub plain : ℕ → StreamCame → Peer → Bool → StreamTurn
 plain known came peer closes = record { shown = 0; notes = []; known = known; came = came; peer = peer; said = []; cut = 0; closes = closes }
 
--- how a lane goes on after a turn
-abbrev pub IsStepOf : Step → StreamTurn → Type 0
-IsStepOf step.Stopped t = ⊥
-IsStepOf step.On t = AreWell t.said × (is_calm (lane_came t.came) ≡ true) × (fails_of (lane_came t.came) ≡ 0)
-IsStepOf step.PortEnd t = t.came ≡ ended
-IsStepOf step.PortFailed t = ((AreWell t.said × (fails_of (lane_came t.came) ≡ 1)) ⊎ (IsBroken (λ f. (serial : ℕ) × (octets : List ℕ) × (f ≡ tried serial octets false)) t.said × (fails_of (lane_came t.came) ≡ 0))) × (is_calm (lane_came t.came) ≡ true)
-IsStepOf step.Refused t = IsBroken (λ f. f ≡ refused) t.said × (is_calm (lane_came t.came) ≡ true) × (fails_of (lane_came t.came) ≡ 0)
+-- how a lane goes on behind an answer of accept or read, and the messages that were taken then
+abbrev pub IsStepOf : Step → StreamCame → List Said → Type 0
+IsStepOf step.Stopped came said = ⊥
+IsStepOf step.On came said = AreWell said × (is_calm (lane_came came) ≡ true) × (fails_of (lane_came came) ≡ 0)
+IsStepOf step.PortEnd came said = came ≡ ended
+IsStepOf step.PortFailed came said = ((AreWell said × (fails_of (lane_came came) ≡ 1)) ⊎ (IsBroken (λ f. (serial : ℕ) × (octets : List ℕ) × (f ≡ tried serial octets false)) said × (fails_of (lane_came came) ≡ 0))) × (is_calm (lane_came came) ≡ true)
+IsStepOf step.Refused came said = IsBroken (λ f. f ≡ refused) said × (is_calm (lane_came came) ≡ true) × (fails_of (lane_came came) ≡ 0)
 
 -- what an answer of accept or read without a piece does
 pub record IsPlain (known : ℕ) (l l' : TalkState) (s : Step) (p q : DeviceState StreamsTold) : Type 0 where
@@ -88,7 +83,7 @@ pub record IsPlain (known : ℕ) (l l' : TalkState) (s : Step) (p q : DeviceStat
   pub faults : raised p.faults (fails_of (lane_came came)) ≤ q.faults
   pub stays : fails_of (lane_came came) ≡ 0 → q.faults ≡ p.faults
   pub ruled : IsRuled came l (plain known came l.peer closes) l'
-  pub step : IsStepOf s (plain known came l.peer closes)
+  pub step : IsStepOf s came []
 
 -- what the messages of a piece do, behind its read
 pub record IsPieceTaken (w n n' : ℕ) (octets : List ℕ) (l l' : TalkState) (s : Step) (e f : Eyes Version) (p q : DeviceState StreamsTold) : Type 0 where
@@ -98,7 +93,7 @@ pub record IsPieceTaken (w n n' : ℕ) (octets : List ℕ) (l l' : TalkState) (s
   pub session : AreTurns stream_replies w (map (turn_of t.peer) t.said) (inner e n p.faults) (inner f n' q.faults)
   pub told : BothTell p.past q.past (λ b c. c ≡ closing_if t.closes (fold (saying t.cut) b t.said))
   pub piece : IsPiece octets l t l'
-  pub step : IsStepOf s t
+  pub step : IsStepOf s t.came t.said
 
 -- what an answer of accept or read and the messages behind it do
 pub record IsTaken (w n n' : ℕ) (l l' : TalkState) (s : Step) (e f : Eyes Version) (p q : DeviceState StreamsTold) : Type 0 where
@@ -110,33 +105,23 @@ pub record IsTaken (w n n' : ℕ) (l l' : TalkState) (s : Step) (e f : Eyes Vers
   pub session : AreTurns stream_replies w (map (turn_of t.peer) t.said) (inner e n middle) (inner f n' q.faults)
   pub told : BothTell p.past q.past (λ b c. c ≡ stream_turn b t)
   pub ruled : IsRuled t.came l t l'
-  pub step : IsStepOf s t
+  pub step : IsStepOf s t.came t.said
 
--- how a lane goes on after a message that ended its conversation
-abbrev pub step_of : Fared → Step
-step_of fared.Silent = step.On
-step_of fared.Sent = step.On
-step_of fared.Failed = step.PortFailed
-step_of fared.Refused = step.Refused
+-- the rules and the messages of some turns, one after the other
+abbrev pub AreHeld : ℕ → List StreamTurn → TalkState → TalkState → Type 0
+AreHeld w [] l l' = l' ≡ l
+AreHeld w (t ∷ log) l l' = (mid : TalkState) × IsRuled t.came l t mid × ((m : Moment Version) × (m' : Moment Version) × AreTurns stream_replies w (map (turn_of t.peer) t.said) m m') × AreHeld w log mid l'
 
--- what one turn does: the gate answered Stop, or a turn was made
-abbrev pub IsTurned : ℕ → Step → StreamMoment Version → StreamMoment Version → Type 0
-IsTurned w step.Stopped m m' = IsStreamStop m m'
-IsTurned w s m m' = (t : StreamTurn) × IsStreamTurn stream_replies w t m m' × IsStepOf s t
-
--- so many turns were made from one moment to another, and so many calls of the streams failed
-pub record IsSoFar (w turns fails : ℕ) (m mid : StreamMoment Version) : Type 0 where
-  pub log : List StreamTurn
-  pub session : IsStreamSession stream_replies w log m mid
-  pub calm : AreCalm (lane_of log)
-  pub failures_are : failures (lane_of log) ≡ fails
-  pub few : fails < 8
-  pub turns_are : length log ≡ turns
-
--- What the turns of a call do: some turns, and then its end.
-pub record IsServed (w turns : ℕ) (m m' : StreamMoment Version) (result : Ended) : Type 0 where
-  pub log : List StreamTurn
-  pub mid : StreamMoment Version
-  pub session : IsStreamSession stream_replies w log m mid
-  pub last : IsStreamLast result mid m'
-  pub ending : IsStreamEnd turns log result
+-- conversations, as what a lane takes: each take is a turn that may have messages, in a room that holds the conversation
+abbrev pub conversations : {S Q : Type 0} → (S → TalkState) → (Q → DeviceState StreamsTold) → Taking StreamTurn S Q
+conversations state told = record {
+  way = Stream;
+  faults = λ q. (told q).faults;
+  is_fresh = λ r. state r ≡ no_talk;
+  is_ready = λ r. (state r).quiets < 200;
+  lead = λ t. lead_of t;
+  more = λ t. map (turn_of t.peer) t.said;
+  does = λ t r r' q q'. BothTell (told q).past (told q').past (λ b c. c ≡ stream_turn b t) × IsRuled t.came (state r) t (state r');
+  is_end = λ t. t.came ≡ ended;
+  is_blind = λ t. IsBroken (λ f. f ≡ refused) t.said;
+}

@@ -7,6 +7,7 @@ use Rattle.outside.specs.Limits.{largest_datagram}
 use Rattle.outside.specs.Streams.{StreamsTold, answered, answered_into, closing, coming, failing, hearing, resting, writing}
 use Rattle.lane_model.specs.Turns.{Fate, Turn, took, silent, refused, tried}
 use Rattle.lane_model.specs.Turns as lane
+use Rattle.name_workers.specs.Messages.{known_after}
 use Rattle.tcp_frames.specs.Split.{HasNoMessage, IsOverlong, framed}
 
 -- what accept or read answered
@@ -124,12 +125,6 @@ pub data PieceEnd : Type 0 where
   long : PieceEnd
   lost : PieceEnd
   blind : PieceEnd
-
--- what a lane knows behind a message: the serial of the reply that was tried, or what it knew
-abbrev pub known_after : ℕ → Fate → ℕ
-known_after known silent = known
-known_after known refused = known
-known_after known (tried serial octets went) = serial
 
 -- what a lane knows behind some messages
 abbrev pub known_behind : ℕ → List Said → ℕ

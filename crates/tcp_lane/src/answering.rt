@@ -1,25 +1,18 @@
 //! The messages of a piece, answered one after another.
 ghost use Rattle.std.specs.Prelude.{◌≡◌};
+ghost use Rattle.answer_core.specs.declared.way.Way.TheVariants.{Stream};
 ghost use Rattle.lane_model.specs.Lanes.{following};
 ghost use Rattle.name_workers.specs.Moments.{eyes_of};
-ghost use Rattle.tcp_lane.specs.Steps.{IsAnswered, IsFared, is_on, step_of};
+ghost use Rattle.name_workers.specs.Messages.{IsFared};
+ghost use Rattle.tcp_lane.specs.Steps.{IsAnswered, is_on, writes};
 
 use addr_text::Peer;
 use answer_core::Way;
 use arrayvec::ArrayVec;
 use map_cell::{CellFault, Door, Naming};
-use name_workers::{Step, Worker};
+use name_workers::{Fared, Worker};
 use outside::{Streams, Writing};
 use tcp_frames::{first_message, frame_of};
-
-/// What became of a message.
-#[derive(Clone, Copy)]
-pub(crate) enum Fared {
-    Silent,
-    Refused,
-    Sent,
-    Failed,
-}
 
 /// Answers a message.
 fn answer_one<J: Naming, Q: Streams, D: Door>(
@@ -29,8 +22,8 @@ fn answer_one<J: Naming, Q: Streams, D: Door>(
     octets: &[u8],
     from: Peer,
 ) -> Fared
-    ensures fared { IsFared worker.old.number worker.old.count from.addr octets.now result
-        (eyes_of D.told worker.old.viewer door.old)
+    ensures fared { IsFared writes Stream worker.old.number worker.old.count from.addr octets.now
+        result (eyes_of D.told worker.old.viewer door.old)
         (eyes_of D.told worker.new.viewer door.new)
         (Q.told streams.old) (Q.told streams.new) }
     ensures count { (worker.new.count ≡ following worker.old.count)
@@ -57,18 +50,6 @@ pub(crate) fn is_on(fared: Fared) -> bool
         Fared::Sent => true,
         Fared::Failed => false,
         Fared::Refused => false,
-    }
-}
-
-/// How the lane goes on after a message that ended its conversation.
-pub(crate) fn step_of(fared: Fared) -> Step
-    ensures { result ≡ step_of fared }
-{
-    match fared {
-        Fared::Silent => Step::On,
-        Fared::Sent => Step::On,
-        Fared::Failed => Step::PortFailed,
-        Fared::Refused => Step::Refused,
     }
 }
 

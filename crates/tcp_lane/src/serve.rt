@@ -1,21 +1,28 @@
-//! A stream lane's turns: the gate is asked, notes are learned, and a conversation is taken, or a piece of the open one is
-//! read and its messages are answered.
+//! A lane over streams: in each turn a conversation is taken, or a piece of the open one is read and its messages are
+//! answered.
 ghost use Rattle.std.specs.Prelude.{◌≡◌, ◌≤◌, ◌<◌, ◌-◌, true, false, length};
 ghost use Rattle.name_workers.specs.Moments.{eyes_of};
 ghost use Rattle.tcp_lane.specs.Calls.{IsStreamCall};
 ghost use Rattle.tcp_lane.specs.Moments.{stream_moment_of, talk_state_of};
 ghost use Rattle.tcp_lane.specs.Replies.{stream_replies};
-ghost use Rattle.tcp_lane.specs.Steps.{IsPieceTaken, IsPlain, IsServed, IsTaken, IsTurned};
+ghost use Rattle.tcp_lane.specs.Steps.{IsPieceTaken, IsPlain, IsTaken};
 ghost use Rattle.tcp_lane.specs.Turns.{no_talk};
 
-use crate::answering::{answer_all, is_on, step_of};
+use crate::answering::{answer_all, is_on};
 use crate::talk::{LaneTalk, close, joined, kept, no_talk, rest_once};
 use arrayvec::ArrayVec;
 use lane_model::Ended;
 use map_cell::{Door, Naming, Note};
-use name_workers::{Step, Worker, learn_all, next_end};
-use outside::{Accepting, Gate, Notes, Reading, Streams, Turning};
+use name_workers::{Step, Takes, Worker, serve_turns, step_after};
+use outside::{Accepting, Gate, Notes, Reading, Streams};
 use tcp_frames::{LARGEST_FRAME, is_overlong};
+
+/// The conversation of a lane, and room for its next piece.
+#[derive(Drop)]
+struct Talking {
+    talk: LaneTalk,
+    piece: [u8; LARGEST_FRAME],
+}
 
 /// Takes all whole messages of a piece that was read.
 fn take_piece<J: Naming, Q: Streams, D: Door>(
@@ -41,7 +48,7 @@ fn take_piece<J: Naming, Q: Streams, D: Door>(
     let (fared, rest) = answer_all(worker, streams, door, octets.as_slice(), talk.peer);
     if !is_on(fared) {
         close(streams, talk);
-        return step_of(fared);
+        return step_after(fared);
     }
     if is_overlong(rest) {
         close(streams, talk);
@@ -113,87 +120,36 @@ fn read_one<J: Naming, Q: Streams, D: Door>(
     }
 }
 
-/// Takes the next conversation, or reads on in the one that is open.
-fn take_one<J: Naming, Q: Streams, D: Door>(
-    worker: &mut Worker<J>,
-    streams: &mut Q,
-    door: &mut D,
-    talk: &mut LaneTalk,
-    buffer: &mut [u8; LARGEST_FRAME],
-) -> Step
-    requires few { talk.old.quiets < 200 }
-    ensures few { talk.new.quiets < 200 }
-    ensures taken { IsTaken worker.old.number worker.old.count worker.new.count
-        (talk_state_of talk.old)
-        (talk_state_of talk.new) result
-        (eyes_of D.told worker.old.viewer door.old)
-        (eyes_of D.told worker.new.viewer door.new)
-        (Q.told streams.old) (Q.told streams.new) }
-    ensures number { worker.new.number ≡ worker.old.number }
-    ensures asked { (D.told door.new).asked ≡ (D.told door.old).asked }
-{
-    if talk.is_open {
-        read_one(worker, streams, door, talk, buffer)
-    } else {
-        accept_one(worker.known(), streams, talk)
-    }
-}
+impl<Q: Streams> Takes<Q> for Talking {
+    ghost use Rattle.tcp_lane.specs.Moments.{talk_state_of};
+    ghost use Rattle.tcp_lane.specs.Steps.{conversations};
+    ghost use Rattle.tcp_lane.specs.Turns.{StreamTurn};
 
-/// One turn.
-fn one_turn<J: Naming, Q: Streams, G: Gate, D: Door, N: Notes<Note<J>>>(
-    worker: &mut Worker<J>,
-    streams: &mut Q,
-    gate: &mut G,
-    door: &mut D,
-    notes: &mut N,
-    talk: &mut LaneTalk,
-    buffer: &mut [u8; LARGEST_FRAME],
-) -> Step
-    requires few { talk.old.quiets < 200 }
-    ensures few { talk.new.quiets < 200 }
-    ensures turned { IsTurned worker.old.number
-        result (stream_moment_of Q.told G.told N.told streams.old gate.old notes.old
-        (eyes_of D.told worker.old.viewer door.old) worker.old.count (talk_state_of talk.old))
-        (stream_moment_of Q.told G.told N.told streams.new gate.new notes.new
-        (eyes_of D.told worker.new.viewer door.new) worker.new.count (talk_state_of talk.new)) }
-    ensures number { worker.new.number ≡ worker.old.number }
-    ensures asked { (D.told door.new).asked ≡ (D.told door.old).asked }
-{
-    if let Turning::Stop = gate.turn(worker.known()) {
-        return Step::Stopped;
-    }
-    learn_all(worker, door, notes);
-    take_one(worker, streams, door, talk, buffer)
-}
+    ghost Took = { StreamTurn };
 
-/// The turns of a lane.
-fn serve_turns<J: Naming, Q: Streams, G: Gate, D: Door, N: Notes<Note<J>>>(
-    worker: &mut Worker<J>,
-    streams: &mut Q,
-    gate: &mut G,
-    door: &mut D,
-    notes: &mut N,
-    talk: &mut LaneTalk,
-    turns: u64,
-) -> Ended
-    requires few { talk.old.quiets < 200 }
-    ensures served { IsServed worker.old.number
-        turns (stream_moment_of Q.told G.told N.told streams.old gate.old notes.old
-        (eyes_of D.told worker.old.viewer door.old) worker.old.count (talk_state_of talk.old))
-        (stream_moment_of Q.told G.told N.told streams.new gate.new notes.new (eyes_of
-        D.told worker.new.viewer door.new) worker.new.count (talk_state_of talk.new)) result }
-    ensures number { worker.new.number ≡ worker.old.number }
-    ensures asked { (D.told door.new).asked ≡ (D.told door.old).asked }
-{
-    let mut buffer = [0u8; LARGEST_FRAME];
-    let mut failed = 0u8;
-    for _ in 0..turns {
-        let step = one_turn(worker, streams, gate, door, notes, talk, &mut buffer);
-        if let Some(ended) = next_end(step, &mut failed) {
-            return ended;
+    ghost taking = { conversations (λ r. talk_state_of r.talk) Q.told };
+
+    fn fresh() -> Talking {
+        Talking {
+            talk: no_talk(),
+            piece: [0u8; LARGEST_FRAME],
         }
     }
-    Ended::Spent
+
+    /// Takes the next conversation, or reads on in the one that is open.
+    fn take<J: Naming, D: Door>(
+        &mut self,
+        port: &mut Q,
+        worker: &mut Worker<J>,
+        door: &mut D,
+    ) -> Step {
+        let Talking { talk, piece } = self;
+        if talk.is_open {
+            read_one(worker, port, door, talk, piece)
+        } else {
+            accept_one(worker.known(), port, talk)
+        }
+    }
 }
 
 /// Serves streams: in each of at most `turns` turns asks the gate, learns the notes, and takes the next conversation, or
@@ -222,12 +178,11 @@ pub fn serve_streams<J: Naming, Q: Streams, G: Gate, D: Door, N: Notes<Note<J>>>
     // No place is asked for.
     ensures asked { (D.told door.new).asked ≡ (D.told door.old).asked }
 {
-    // tells the prover what the type keeps
-    let _ = worker.known();
-    let mut talk = no_talk();
-    let ended = serve_turns(worker, streams, gate, door, notes, &mut talk, turns);
-    if talk.is_open {
-        close(streams, &mut talk);
+    let (ended, mut talking) = serve_turns::<J, Q, Talking, G, D, N>(
+        worker, streams, gate, door, notes, turns,
+    );
+    if talking.talk.is_open {
+        close(streams, &mut talking.talk);
     }
     ended
 }

@@ -28,8 +28,7 @@ pub(crate) struct LaneTalk {
 
 /// Before the first conversation.
 pub(crate) fn no_talk() -> LaneTalk
-    ensures { (result.is_open ≡ false)
-        × (result.peer ≡ no_talk.peer) × (result.held.items ≡ []) × (result.quiets ≡ 0) }
+    ensures { talk_state_of result ≡ no_talk }
 {
     LaneTalk {
         is_open: false,

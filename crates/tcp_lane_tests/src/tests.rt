@@ -148,15 +148,23 @@ fn serve_by<J: Naming>(
     )
 }
 
-/// How a lane ends with a viewer, in at most so many turns. Its gate stops it later.
-fn serve<J: Naming>(
-    alloc: Global,
-    viewer: Viewer<J>,
+/// A lane that is served: its worker's number, its streams, its door, and how many turns it takes at most.
+#[derive(Drop)]
+struct Served<'s> {
     number: u8,
-    streams: &mut MemStreams,
+    streams: &'s mut MemStreams,
     door: MemDoor,
     turns: usize,
-) -> Option<Ended> {
+}
+
+/// How a lane ends with a viewer, in at most its turns. Its gate stops it later.
+fn serve<J: Naming>(alloc: Global, viewer: Viewer<J>, served: Served<'_>) -> Option<Ended> {
+    let Served {
+        number,
+        streams,
+        door,
+        turns,
+    } = served;
     let worker = Worker::new(viewer, number);
     match MemGate::new(alloc, 10_000) {
         Err(_) => None,
@@ -170,15 +178,12 @@ fn serve<J: Naming>(
 fn serve_last<J: Naming>(
     alloc: Global,
     viewers: Vec<Viewer<J>>,
-    number: u8,
-    streams: &mut MemStreams,
-    door: MemDoor,
-    turns: usize,
+    served: Served<'_>,
 ) -> Option<Ended> {
     let mut viewers = viewers;
     match viewers.pop() {
         None => None,
-        Some(viewer) => serve(alloc, viewer, number, streams, door, turns),
+        Some(viewer) => serve(alloc, viewer, served),
     }
 }
 
@@ -188,10 +193,7 @@ fn opened<J: Naming, R: Wait>(
     alloc: Global,
     history: EmptyHistory,
     version: MapVersion,
-    number: u8,
-    streams: &mut MemStreams,
-    door: MemDoor,
-    turns: usize,
+    served: Served<'_>,
 ) -> Option<Ended>
     requires history { history ≡ J.book }
     requires version { IsVersion version × (version.serial ≡ 0) }
@@ -200,7 +202,7 @@ fn opened<J: Naming, R: Wait>(
     match open::<J, PlainDoor, R>(rt, alloc, history, version, 1, &mut first) {
         Err(_) => None,
         Ok((publisher, viewers)) => {
-            let ended = serve_last(alloc, viewers, number, streams, door, turns);
+            let ended = serve_last(alloc, viewers, served);
             publisher.close(rt);
             ended
         }
@@ -208,27 +210,10 @@ fn opened<J: Naming, R: Wait>(
 }
 
 /// The same, of a history of its own.
-fn ends<R: Wait>(
-    rt: &R,
-    alloc: Global,
-    version: MapVersion,
-    number: u8,
-    streams: &mut MemStreams,
-    door: MemDoor,
-    turns: usize,
-) -> Option<Ended>
+fn ends<R: Wait>(rt: &R, alloc: Global, version: MapVersion, served: Served<'_>) -> Option<Ended>
     requires { IsVersion version × (version.serial ≡ 0) }
 {
-    opened::<Brand, R>(
-        rt,
-        alloc,
-        EmptyHistory::new(),
-        version,
-        number,
-        streams,
-        door,
-        turns,
-    )
+    opened::<Brand, R>(rt, alloc, EmptyHistory::new(), version, served)
 }
 
 /// Whether octets are these parts, one behind another.
@@ -262,7 +247,13 @@ fn comes<R: Wait>(rt: &R, alloc: Global, row: &Row) -> Option<bool> {
     let mut streams = streams_of(alloc, conversations, failing)?;
     let door = MemDoor::new(Vec::new(alloc), numbers_of(alloc, failing.2)?);
     let version = first_version(alloc)?;
-    let came = ends(rt, alloc, version, *number, &mut streams, door, *turns)?;
+    let served = Served {
+        number: *number,
+        streams: &mut streams,
+        door,
+        turns: *turns,
+    };
+    let came = ends(rt, alloc, version, served)?;
     Some(came == *ended && are_written(streams.closed(), written))
 }
 

@@ -36,8 +36,10 @@ pub fn version_of(
 ) -> Option<MapVersion>
     requires instance { instance.now ≡ topology.market }
     requires good { IsGood instance.now map.now.lines.items map.now.names.items }
-    ensures version { IfSome result (λ v. IsVersion v × (v.serial ≡ serial) × (v.market ≡ v.plan.market)) }
-    ensures parts { IfSome result (λ v. (v.market ≡ instance.now) × (v.lines ≡ map.now.lines.items) × (v.names ≡ map.now.names.items)) }
+    ensures version { IfSome result (λ v. IsVersion v × (v.serial ≡ serial)
+        × (v.market ≡ v.plan.market)) }
+    ensures parts { IfSome result (λ v. (v.market ≡ instance.now) × (v.lines ≡ map.now.lines.items)
+        × (v.names ≡ map.now.names.items)) }
 {
     match Shared::build(alloc, topology) {
         Err(_) => None,

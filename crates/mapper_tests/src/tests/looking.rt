@@ -1,10 +1,10 @@
 //! Each note goes into the row behind its map's text and the line that it is published.
 ghost use Rattle.std.specs.Prelude.{◌≡◌, ◌<◌, ◌^◌, None};
 
-use super::{count_notes, opened, row_of};
+use super::{opened, row_of, tells_of};
 use demand_feed::FeedEnd;
 use map_cell::{EmptyHistory, Naming, NoteRow, RowNotes};
-use mapper::Mapper;
+use mapper::{Mapper, Outputs};
 use no_memory::NoMemory;
 use outside::{MemPace, MemSource, Notes, Put, Sink};
 use std::alloc::Global;
@@ -83,14 +83,19 @@ fn is_in_order<J: Naming, R: Wait>(
 {
     let mut feed = feed_of(alloc)?;
     let mut pace = MemPace::new(alloc, 64)?;
-    let row = row_of(rt, alloc, mapper)?;
+    let (row, told) = row_of(rt, alloc, mapper)?;
     let mut out = Looking::over(&row);
     let mut maps = Looking::over(&row);
-    let end = mapper.run_feed(
-        rt, &mut feed, &mut out, &mut maps, &mut pace, &row, 1_000_000,
-    );
-    let came = (end, saw(&out, 3), saw(&maps, 3), count_notes(&row));
-    Ok(came == (FeedEnd::Ended, true, true, 4))
+    let mut to = Outputs {
+        out: &mut out,
+        maps: &mut maps,
+        pace: &mut pace,
+        told,
+    };
+    let end = mapper.run_feed(rt, &mut feed, &mut to, &row, 1_000_000);
+    let told = to.told;
+    let came = (end, saw(&out, 3), saw(&maps, 3), tells_of(&row, told, 3));
+    Ok(came == (FeedEnd::Ended, true, true, true))
 }
 
 /// The same, of a mapper of the example.

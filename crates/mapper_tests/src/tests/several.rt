@@ -1,11 +1,11 @@
 //! Two feeds over a mapper: their merged control text, and how they end.
 ghost use Rattle.std.specs.Prelude.{◌≡◌, ◌<◌, ◌^◌, [], ◌∷◌, length, IfSome};
 
-use super::{SESSION, count_notes, opened, row_of, sink_of, source_of};
+use super::{SESSION, opened, row_of, sink_of, source_of, tells_of};
 use demand_feed::FeedEnd;
 use feed_queue::{Feeder, Numbers, Taker, open};
 use map_cell::{EmptyHistory, Naming};
-use mapper::Mapper;
+use mapper::{Mapper, Outputs};
 use no_memory::NoMemory;
 use outside::{MemPace, MemSource, PaceCall};
 use std::alloc::Global;
@@ -280,12 +280,20 @@ fn works<J: Naming, N: Numbers, R: Wait>(
         return false;
     };
     let (mut out, mut maps, mut pace) = (out, maps, pace);
-    let end = mapper.run_feeds(rt, taker, &mut out, &mut maps, &mut pace, &notes);
+    let (notes, told) = notes;
+    let mut to = Outputs {
+        out: &mut out,
+        maps: &mut maps,
+        pace: &mut pace,
+        told,
+    };
+    let end = mapper.run_feeds(rt, taker, &mut to, &notes);
+    let told = to.told;
     end == row.end
         && out.bytes() == row.out.as_bytes()
         && mapper.text() == row.map.as_bytes()
         && pace.calls() == row.calls
-        && count_notes(&notes) == row.notes.saturating_add(1)
+        && tells_of(&notes, told, row.notes)
 }
 
 /// Whether two feeds do to a mapper what a row says.

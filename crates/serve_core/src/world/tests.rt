@@ -105,7 +105,8 @@ fn event_of(alloc: Global, topology: &Topology, tried: Try) -> Option<Event>
 /// Whether an event's names are those of the newest version: it has as many groups and nodes as the topology.
 fn fits(world: &World, topology: &Topology, event: &Event) -> bool
     requires { IsEventFor topology.now.market event.now }
-    ensures { result ≡ true → (v : Version) → newest_of world.now.history ≡ Some v → IsEventFor v.market event.now }
+    ensures { result ≡ true → (v : Version) → newest_of world.now.history ≡ Some v
+        → IsEventFor v.market event.now }
 {
     world.instance.groups() == topology.instance().groups()
         && world.instance.nodes() == topology.instance().nodes()

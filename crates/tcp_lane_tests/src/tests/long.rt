@@ -1,7 +1,7 @@
 //! A reply that is too long for a datagram.
 ghost use Rattle.std.specs.Prelude.{◌≡◌};
 
-use super::{CLIENT, ends, numbers_of};
+use super::{CLIENT, Served, ends, numbers_of};
 use lane_model::Ended;
 use map_cell::MemDoor;
 use outside::{MemStreams, MemTalk};
@@ -95,7 +95,13 @@ fn is_answered<R: Wait>(rt: &R, alloc: Global) -> Option<bool> {
     let door = MemDoor::new(Vec::new(alloc), Vec::new(alloc));
     let map = map_of(alloc, &[(0, 0, 1)], &[]).ok()?;
     let version = version_of_text(alloc, 0, TWENTY, map)?;
-    let ended = ends(rt, alloc, version, 0, &mut streams, door, 100)?;
+    let served = Served {
+        number: 0,
+        streams: &mut streams,
+        door,
+        turns: 100,
+    };
+    let ended = ends(rt, alloc, version, served)?;
     let talk = streams.closed().first()?;
     Some(ended == Ended::PortEnd && is_whole(talk.written()))
 }

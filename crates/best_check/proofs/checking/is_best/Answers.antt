@@ -2,7 +2,7 @@ use Rattle.std.proofs.Common.{◌≡◌, ℕ, true, List, subst, sym}
 use Rattle.std.proofs.lemmas.Result.{IfOk-weaker}
 use Rattle.map_model.specs.Market.{Market}
 use Rattle.map_model.specs.Progress.{IsGroupBest}
-use Rattle.circle_laws.proofs.Best.{best_if_free}
+use Rattle.map_laws.proofs.Best.{best_if_free}
 use Rattle.best_check.specs.Leads.{FallAlong, LeadInside}
 use Rattle.best_check.proofs.Leading.{free_of_circles}
 use Rattle.best_check.proofs.Tables.{right_of_state}

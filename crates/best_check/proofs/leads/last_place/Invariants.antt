@@ -1,6 +1,6 @@
 use Rattle.std.proofs.Common.{◌≡◌, ℕ, ◌<◌, Some, IfSome}
 use Rattle.map_model.specs.Allocation.{IsOffer}
-use Rattle.circle_laws.specs.Circles.{IsLastPlace}
+use Rattle.map_laws.specs.Circles.{IsLastPlace}
 use Rattle.best_check.proofs.leads.last_place.Given as goal
 
 abbrev pub invariant-loop-place : goal.invariant-loop-place

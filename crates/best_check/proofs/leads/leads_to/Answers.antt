@@ -1,7 +1,7 @@
 use Rattle.std.proofs.Common.{◌≡◌, ℕ, Some, IfSome, sym, ap, ◌∙◌, subst}
 use Rattle.map_model.specs.Market.{Market, demand_of, pool_of, choice_at}
 use Rattle.map_model.specs.Allocation.{placed}
-use Rattle.circle_laws.specs.Circles.{IsLastPlace}
+use Rattle.map_laws.specs.Circles.{IsLastPlace}
 use Rattle.best_check.specs.declared.ranked.Ranked.{Ranked}
 use Rattle.best_check.proofs.Leading.{none_is_last, last_is}
 use Rattle.best_check.proofs.leads.leads_to.Goals as goal

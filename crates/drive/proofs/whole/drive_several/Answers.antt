@@ -1,4 +1,7 @@
-use Rattle.std.proofs.Common.{rules, ◌≡◌, ◌∙◌, ◌++◌, [], All, length, map, refl, ap, sym, subst, vec_len}
+use Rattle.std.proofs.Common.{rules, ◌≡◌, ◌∙◌, ◌++◌, [], All, length, map, refl, ap, sym, subst, vec_len, ◌≢◌, ◌∷◌, List, ℕ}
+use Rattle.demand_feed.specs.declared.run.FeedEnd.TheVariants.{SinkFault}
+use Rattle.published_map.specs.Version.{Version}
+use Rattle.mapper.specs.Notes.{AreTold}
 use Rattle.std.specs.Arc.{arc_value}
 use Rattle.std.proofs.lemmas.List.{length-map}
 use Rattle.std.proofs.lemmas.List.FromFn.{length-range_with_len}
@@ -9,7 +12,6 @@ use Rattle.drive.proofs.Growing.{feeds_go_on, together_over}
 use Rattle.drive.proofs.Several.{are_fed, fresh_all, queues, several, some_told}
 use Rattle.drive.proofs.Together.{are_done_in, ended_as}
 use Rattle.drive.specs.Driven.{IsDriven}
-use Rattle.drive.specs.Told.{feed_told, lent_of}
 use Rattle.drive.proofs.whole.drive_several.Goals as goal
 
 pub serve_several-requires-clause-first : goal.serve_several-requires-clause-first
@@ -27,43 +29,56 @@ serve_several-requires-clause-feeds g c κs within =
 pub all_back-requires-clause-queue : goal.all_back-requires-clause-queue
 all_back-requires-clause-queue g c =
     let s = c.serve_several.ensures in
-    let taker : c.taker-2-1.given.0 ≡ c.serve_several.new.side.taker.now = search rules in
+    let taker : c.taker-2-1.given.0 ≡ c.serve_several.new.loan.side.taker.now = search rules in
+    let feeders : c.feeders-2-1.given.0 ≡ c.serve_several.new.loan.readers.feeders.now = search rules in
     let queue : c.args.queue.taker.queue ≡ c.taker-2-1.given.0.queue = sym (ap (λ (t : TakerState). t.queue) taker ∙ s.worked.queue.0) in
-    subst (λ (q : TableId). All (λ (f : FeederState). f.queue ≡ q) c.serve_several.new.feeders.items) queue
-    (queues (arc_value c.args.queue.desk.topology) c.args.queue.desk.turns g.T.Source.told c.args.queue.taker.queue 1 (length c.args.lent.now.more.now) c.args.lent.now.more.now c.serve_several.new.more c.args.queue.feeders.items c.serve_several.new.feeders.items c.requires.queue.feeders s.sent)
+    rw feeders (subst (λ (q : TableId). All (λ (f : FeederState). f.queue ≡ q) c.serve_several.new.loan.readers.feeders.now.items) queue
+    (queues (arc_value c.args.queue.desk.topology) c.args.queue.desk.turns g.T.Source.told c.args.queue.taker.queue 1 (length c.args.lent.now.more.now) c.args.lent.now.more.now c.serve_several.new.loan.more.now c.args.queue.feeders.items c.serve_several.new.loan.readers.feeders.now.items c.requires.queue.feeders s.sent))
 
 pub returns-clause-driven : goal.returns-clause-driven
 returns-clause-driven g c =
     let s = c.serve_several.ensures in
     let opened = sole_history c.args.mapper.history c.args.mapper.newest c.newest.ensures.last c.requires.serial in
-    let size : length c.serve_several.new.works.lanes.items ≡ vec_len c.args.prepared.works.lanes = search rules in
-    let taker : c.taker-2-1.given.0 ≡ c.serve_several.new.side.taker.now = search rules in
-    let run = several (arc_value c.args.queue.desk.topology) c.args.mapper.newest.plan c.args.queue.desk.turns g.T.Source.told g.N.Numbers.groups g.N.Numbers.nodes _ _ (g.S.Source.told c.args.lent.now.feed.now).faults (g.S.Source.told c.serve_several.new.feed).faults _ _ c.args.lent.now.more.now c.serve_several.new.more c.args.queue.feeders.items c.serve_several.new.feeders.items c.args.queue.taker c.taker-2-1.given.0 c.serve_several.new.side.taker.now _ _ _ c.requires.queue.topology taker s.worked.queue.1 c.requires.queue.taker c.requires.queue.first c.requires.queue.feeders s.first s.sent c.all_back.ensures.taken c.all_back.ensures.first c.all_back.ensures.begins s.worked.run s.worked.merged in
-    let driven : IsDriven c.args.queue.desk.turns c.args.mapper.newest c.serve_several.new.side.end (map (λ w. w.ended) c.serve_several.new.works.lanes.items) c.end_of.result
-    (record { feed = feed_told g.S.Source.told c.args.lent.now.feed.now; more = map (feed_told g.T.Source.told) c.args.lent.now.more.now; out = (g.K.Sink.told c.args.lent.now.out.now).past; maps = (g.K.Sink.told c.args.lent.now.maps.now).past; pace = (g.M.Pace.told c.args.lent.now.pace.now).past; lanes = c.args.lent.now.lanes.now; stream = c.args.stream.now })
-    (record { feed = feed_told g.S.Source.told c.serve_several.new.feed; more = map (feed_told g.T.Source.told) c.serve_several.new.more; out = (g.K.Sink.told c.serve_several.new.side.out.now).past; maps = (g.K.Sink.told c.serve_several.new.side.maps.now).past; pace = (g.M.Pace.told c.serve_several.new.side.pace.now).past; lanes = (c.serve_several.new.lanes ++ c.split_at_mut-served.result.1.now); stream = c.serve_several.new.stream }) = record {
+    let size : length c.serve_several.new.works.lanes.items ≡ vec_len c.args.works.lanes = search rules in
+    let taker : c.taker-2-1.given.0 ≡ c.serve_several.new.loan.side.taker.now = search rules in
+    let first : c.first-2-1.given.0 ≡ c.serve_several.new.loan.readers.first.now = search rules in
+    let feeders : c.feeders-2-1.given.0 ≡ c.serve_several.new.loan.readers.feeders.now = search rules in
+    let feed : c.lent-4-1.given.0 ≡ c.serve_several.new.loan.readers.feed.now = search rules in
+    let more : c.more-2-1.given.0 ≡ c.serve_several.new.loan.more.now = search rules in
+    let out : c.lent-3-1.given.0 ≡ c.serve_several.new.loan.side.out.now = search rules in
+    let maps : c.lent-2-1.given.0 ≡ c.serve_several.new.loan.side.maps.now = search rules in
+    let pace : c.lent-1.given.0 ≡ c.serve_several.new.loan.side.pace.now = search rules in
+    let lanes : c.served-1.given.0 ≡ c.serve_several.new.loan.lanes.now = search rules in
+    let run = several (arc_value c.args.queue.desk.topology) c.args.mapper.newest.plan c.args.queue.desk.turns g.T.Source.told g.N.Numbers.groups g.N.Numbers.nodes (g.S.Source.told c.args.lent.now.feed.now) (g.S.Source.told c.serve_several.new.loan.readers.feed.now) _ _ c.args.lent.now.more.now c.serve_several.new.loan.more.now c.args.queue.feeders.items c.serve_several.new.loan.readers.feeders.now.items c.args.queue.taker c.taker-2-1.given.0 c.serve_several.new.loan.side.taker.now _ _ _ c.requires.queue.topology taker s.worked.queue.1 c.requires.queue.taker c.requires.queue.first c.requires.queue.feeders s.first s.sent c.all_back.ensures.taken (rw (sym first) c.all_back.ensures.first) (rw (sym feeders) c.all_back.ensures.begins) s.worked.run s.worked.merged in
+    let driven : IsDriven c.args.queue.desk.turns c.args.mapper.newest c.serve_several.new.loan.side.end (map (λ w. w.ended) c.serve_several.new.works.lanes.items) c.end_of.result
+    (record { feed = g.S.Source.told c.args.lent.now.feed.now; more = map g.T.Source.told c.args.lent.now.more.now; out = g.K.Sink.told c.args.lent.now.out.now; maps = g.K.Sink.told c.args.lent.now.maps.now; pace = g.M.Pace.told c.args.lent.now.pace.now; lanes = c.args.lent.now.lanes.now; stream = c.args.stream.now })
+    (record { feed = g.S.Source.told c.serve_several.new.loan.readers.feed.now; more = map g.T.Source.told c.serve_several.new.loan.more.now; out = g.K.Sink.told c.serve_several.new.loan.side.out.now; maps = g.K.Sink.told c.serve_several.new.loan.side.maps.now; pace = g.M.Pace.told c.serve_several.new.loan.side.pace.now; lanes = (c.serve_several.new.loan.lanes.now ++ c.split_at_mut-served.result.1.now); stream = c.serve_several.new.stream }) =
+    record {
       rest = s.done.0;
-      newest = c.serve_several.new.mapper.newest;
-      feed = are_fed _ _ _ _ _ _ _ _ _ (some_told (feed_told g.T.Source.told) c.args.lent.now.more.now c.requires.several) (together_over _ _ _ _ _ _ _ _ _ _ _ _ _ _ _ _ _ _ _ opened s.done.1 run.fed);
+      newest = c.serve_several.new.loan.side.mapper.now.newest;
+      feed = are_fed _ _ _ _ _ _ _ _ _ (some_told g.T.Source.told c.args.lent.now.more.now c.requires.several) (together_over _ _ _ _ _ _ _ _ _ _ _ _ _ _ _ _ _ _ _ opened s.done.1 run.fed);
       goes_on = feeds_go_on _ _ _ _ _ c.args.mapper.newest s.done.0 s.worked.run refl opened s.done.1 s.history;
-      lanes = are_done_in (λ w. w.ended) _ _ _ _ _ _ _ _ c.split_at_mut-served.ensures.value s.done.2;
-      stream = ended_as _ _ _ _ _ _ _ _ _ s.done.3 (length-map _ _ ∙ search rules) c.end_of.ensures;
-    } in (
-      map (λ w. w.ended) c.serve_several.new.works.lanes.items,
-      length-map _ _ ∙ size,
-      c.ends_of.ensures,
-      rw (sym c.requires.turns.1) driven,
-    )
+      lanes = are_done_in (λ w. w.ended) _ _ _ _ _ _ _ _ c.split_at_mut-served.ensures.value s.done.2.0;
+      stream = ended_as _ _ _ _ _ _ _ _ _ s.done.2.1 (length-map _ _ ∙ search rules) c.end_of.ensures;
+    } in
+    rw (sym c.requires.turns.1, feed, more, out, maps, pace, lanes) (map (λ w. w.ended) c.serve_several.new.works.lanes.items, length-map _ _ ∙ size, c.ends_of.ensures, driven, λ whole. tt)
 
 pub returns-clause-counted : goal.returns-clause-counted
 returns-clause-counted g c =
     let s = c.serve_several.ensures in
-    let taker : c.taker-2-1.given.0 ≡ c.serve_several.new.side.taker.now = search rules in
-    let run = several (arc_value c.args.queue.desk.topology) c.args.mapper.newest.plan c.args.queue.desk.turns g.T.Source.told g.N.Numbers.groups g.N.Numbers.nodes _ _ (g.S.Source.told c.args.lent.now.feed.now).faults (g.S.Source.told c.serve_several.new.feed).faults _ _ c.args.lent.now.more.now c.serve_several.new.more c.args.queue.feeders.items c.serve_several.new.feeders.items c.args.queue.taker c.taker-2-1.given.0 c.serve_several.new.side.taker.now _ _ _ c.requires.queue.topology taker s.worked.queue.1 c.requires.queue.taker c.requires.queue.first c.requires.queue.feeders s.first s.sent c.all_back.ensures.taken c.all_back.ensures.first c.all_back.ensures.begins s.worked.run s.worked.merged in
-    record {
+    let taker : c.taker-2-1.given.0 ≡ c.serve_several.new.loan.side.taker.now = search rules in
+    let first : c.first-2-1.given.0 ≡ c.serve_several.new.loan.readers.first.now = search rules in
+    let feeders : c.feeders-2-1.given.0 ≡ c.serve_several.new.loan.readers.feeders.now = search rules in
+    let feed : c.lent-4-1.given.0 ≡ c.serve_several.new.loan.readers.feed.now = search rules in
+    let more : c.more-2-1.given.0 ≡ c.serve_several.new.loan.more.now = search rules in
+    let out : c.lent-3-1.given.0 ≡ c.serve_several.new.loan.side.out.now = search rules in
+    let maps : c.lent-2-1.given.0 ≡ c.serve_several.new.loan.side.maps.now = search rules in
+    let run = several (arc_value c.args.queue.desk.topology) c.args.mapper.newest.plan c.args.queue.desk.turns g.T.Source.told g.N.Numbers.groups g.N.Numbers.nodes (g.S.Source.told c.args.lent.now.feed.now) (g.S.Source.told c.serve_several.new.loan.readers.feed.now) _ _ c.args.lent.now.more.now c.serve_several.new.loan.more.now c.args.queue.feeders.items c.serve_several.new.loan.readers.feeders.now.items c.args.queue.taker c.taker-2-1.given.0 c.serve_several.new.loan.side.taker.now _ _ _ c.requires.queue.topology taker s.worked.queue.1 c.requires.queue.taker c.requires.queue.first c.requires.queue.feeders s.first s.sent c.all_back.ensures.taken (rw (sym first) c.all_back.ensures.first) (rw (sym feeders) c.all_back.ensures.begins) s.worked.run s.worked.merged in
+    rw (feed, more, out, maps)
+    (record {
       later = (s.worked.later.0, s.worked.later.1, run.later.0, run.later.1);
       sink = s.worked.sink;
       sink_stays = s.worked.sink_stays;
       source = run.source;
-      source_stays = λ other one. run.stays other (λ sink. some_told (feed_told g.T.Source.told) c.args.lent.now.more.now c.requires.several (one sink));
-    }
+      source_stays = λ other one. run.stays other (λ sink. some_told g.T.Source.told c.args.lent.now.more.now c.requires.several (one sink));
+    })

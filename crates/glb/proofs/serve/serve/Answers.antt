@@ -1,6 +1,9 @@
 use Rattle.std.proofs.Common.{inl, inr, refl, rules, arith}
+use Rattle.glb.specs.Files.{topology_file}
 use Rattle.glb.proofs.Named.{fell_same}
 use Rattle.glb.proofs.Lanes.{session_causes, unread_causes}
+use Rattle.glb.proofs.Plans.{is_plan}
+use Rattle.glb.proofs.Reading.{faulty_here, said_here}
 use Rattle.glb.proofs.Reports.{read_whole, stopped_end, stopped_load, stopped_run}
 use Rattle.glb.proofs.Sessions.{session_later}
 use Rattle.glb.proofs.Tasks.{promised}
@@ -9,7 +12,8 @@ use Rattle.glb.proofs.serve.serve.Goals as goal
 pub returns-in-Ok-clause-promised : goal.returns-in-Ok-clause-promised
 returns-in-Ok-clause-promised g c =
     let later = session_later _ _ _ _ _ _ c.serve_topology.ensures.session in
-    promised _ _ _ _ _ (search rules) (search rules) (search rules)
+    let says = said_here topology_file _ _ _ c.in-Ok.topology c.in-Ok.ensures.said in
+    promised _ _ _ _ _ (inr (c.in-Ok.topology, is_plan _ _ _ says, says, c.serve_topology.ensures.session)) (search rules) (search rules)
     (record {
       files_later = c.load_topology.ensures.later;
       feed_later = later.feed;
@@ -27,7 +31,7 @@ returns-in-Ok-clause-promised g c =
 
 pub returns-in-Err-clause-promised : goal.returns-in-Err-clause-promised
 returns-in-Err-clause-promised g c = promised _ _ _ _ _
-    (inl (record { run = stopped_run _ _ _ _ _ c.in-Err.ensures.said c.finish.ensures.run; rest = record { lent = refl; rest = refl } }))
+    (inl (record { run = stopped_run _ _ _ _ _ (faulty_here topology_file _ _ _ c.in-Err.stop c.in-Err.ensures.said) c.finish.ensures.run; rest = refl }))
     (search rules)
     (search rules)
     (record {
@@ -42,5 +46,5 @@ returns-in-Err-clause-promised g c = promised _ _ _ _ _
       feed_stays = λ none one. (refl, refl);
       out_stays = c.finish.ensures.stays;
       maps_stay = λ none. refl;
-      lanes = unread_causes _ _ _ _ _ _ _ _ _ _ (stopped_run _ _ _ _ _ c.in-Err.ensures.said c.finish.ensures.run);
+      lanes = unread_causes topology_file _ _ _ _ _ _ _ _ _ (stopped_run _ _ _ _ _ (faulty_here topology_file _ _ _ c.in-Err.stop c.in-Err.ensures.said) c.finish.ensures.run);
     })

@@ -1,6 +1,6 @@
 use Rattle.std.proofs.Common.{rules, ◌≡◌, ◌∙◌, [], ◌++◌, map, refl, ap, sym, append-nil}
-use Rattle.drive.specs.Told.{feed_told}
-use Rattle.glb.proofs.Tasks.{none_behind, promised_over, same_stage, unread}
+use Rattle.glb.proofs.First.{same_lent}
+use Rattle.glb.proofs.Tasks.{none_behind, promised_over, same_surroundings, unread}
 use Rattle.glb.proofs.top.glb.Goals as goal
 
 pub returns-in-Ok : goal.returns-in-Ok
@@ -13,9 +13,9 @@ returns-in-Ok g c =
     let maps : c.run_order.new.lent.maps.now ≡ c.maps-1.given.0 = search rules in
     let pace : c.run_order.new.lent.pace.now ≡ c.pace-1.given.0 = search rules in
     let lanes : c.run_order.new.lent.lanes.now ≡ c.all-1.given.0 ++ c.split_at_mut-all.result.1.now = search rules in
-    promised_over _ _ _ _ _ _ _ _ _ _ _ _ _ refl c.in-Ok.ensures.asked
-    (same_stage _ _ _ _ _ _ _ _ _ _ _ _ _ _ _ _ _ _ _ _ refl refl refl refl refl refl front refl refl refl)
-    (same_stage _ _ _ _ _ _ _ _ _ _ _ _ _ _ _ _ _ _ _ _ (ap (feed_told g.S.Source.told) feed) (ap (map (feed_told g.N.Source.told)) more) (ap (map g.N.NamedSource.opens) more) (ap (λ k. (g.K.Sink.told k).past) out) (ap (λ k. (g.K.Sink.told k).past) maps) (ap (λ k. (g.M.Pace.told k).past) pace) lanes refl (ap (λ k. (g.K.Sink.told k).faults) out) (ap (λ k. (g.K.Sink.told k).faults) maps))
+    promised_over _ _ _ _ _ _ _ _ _ refl c.in-Ok.ensures.asked
+    (same_surroundings _ _ _ (same_lent _ _ _ _ _ _ _ _ _ _ _ _ _ _ refl refl refl refl refl front refl))
+    (same_surroundings _ _ _ (same_lent _ _ _ _ _ _ _ _ _ _ _ _ _ _ (ap g.S.Source.told feed) (ap (map g.N.Source.told) more) (ap g.K.Sink.told out) (ap g.K.Sink.told maps) (ap g.M.Pace.told pace) lanes refl))
     c.run_order.ensures.promised
 
 pub returns-in-Err : goal.returns-in-Err

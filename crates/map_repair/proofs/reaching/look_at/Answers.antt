@@ -15,22 +15,22 @@ loop-offer-init c = record { marking = marking_none c.args.marks.now; groups = r
 
 pub returns-then-ahead-nodes-clause-settled : goal.returns-then-ahead-nodes-clause-settled
 returns-then-ahead-nodes-clause-settled c =
-    let m : Market = c.args.old.now in
-    settled_whole m c.args.state.now c.loop-offer.marks.on c.args.root.0 c.requires.ready.market (subst (AreMarkedTo m c.loop-offer.marks.on) (c.if-ahead-nodes.true ∙ c.nodes.ensures.count) c.loop-offer.invariant.marked)
+    let m : Market = c.args.followed.now.old.now in
+    settled_whole m c.args.followed.now.state.now c.loop-offer.marks.on c.args.root.0 c.requires.ready.market (subst (AreMarkedTo m c.loop-offer.marks.on) (c.if-ahead-nodes.true ∙ c.nodes.ensures.count) c.loop-offer.invariant.marked)
 
 pub follow-requires-clause-offer : goal.follow-requires-clause-offer
 follow-requires-clause-offer c =
     let d : Offer = record { group = record { 0 = 0 }; place = 0 } in
     let items : List Offer = c.in_tree-offer-items.result.now in
-    c.requires.asked.offers c.args.root.0 (slice_index_or items c.loop-offer.offer-index d) (listed_there c.args.asked.now items c.args.root.0 c.loop-offer.offer-index d c.in_tree-offer-items.ensures c.loop-offer-test.true)
+    c.requires.asked.offers c.args.root.0 (slice_index_or items c.loop-offer.offer-index d) (listed_there c.args.followed.now.asked.now items c.args.root.0 c.loop-offer.offer-index d c.in_tree-offer-items.ensures c.loop-offer-test.true)
 
 pub loop-offer-preserved : goal.loop-offer-preserved
 loop-offer-preserved c =
-    let m : Market = c.args.old.now in
-    let s = c.args.state.now in
+    let m : Market = c.args.followed.now.old.now in
+    let s = c.args.followed.now.state.now in
     let d : Offer = record { group = record { 0 = 0 }; place = 0 } in
     let items : List Offer = c.in_tree-offer-items.result.now in
-    let lists = c.args.asked.now in
+    let lists = c.args.followed.now.asked.now in
     let root = c.args.root.0 in
     let at = c.loop-offer.offer-index in
     let offer : Offer = slice_index_or items at d in
@@ -56,5 +56,5 @@ loop-offer-preserved c =
 
 pub returns-clause-settled : goal.returns-clause-settled
 returns-clause-settled c = λ g k o at before.
-    let there : Contains (listed_at c.args.asked.now c.args.root.0) (offer_of g k) = subst (λ x. Contains (listed_at c.args.asked.now x) (offer_of g k)) at (c.requires.asked.listed g k o tt) in
+    let there : Contains (listed_at c.args.followed.now.asked.now c.args.root.0) (offer_of g k) = subst (λ x. Contains (listed_at c.args.followed.now.asked.now x) (offer_of g k)) at (c.requires.asked.listed g k o tt) in
     c.loop-offer.invariant.followed there.0 (offer_of g k) (omega (arith, there.1, ap (λ (xs : List Offer). length xs) c.in_tree-offer-items.ensures, c.loop-offer-test.false)) there.2 before

@@ -8,9 +8,9 @@ abbrev pub invariant-loop-offer : goal.invariant-loop-offer
 invariant-loop-offer l = record {
   marking : IsMarking l.fn.marks l.marks;
   groups : length l.done ≡ length l.fn.done;
-  done : AreDone l.old l.state.lines l.marks.on l.done;
-  ahead : l.ahead ≤ length l.old.nodes;
-  marked : AreMarkedTo l.old l.marks.on l.ahead;
-  followed : (i : ℕ) (o : Offer) → i < l.offer-index → slice_index_or (listed_at l.asked l.fn.root.0) i o ≡ o → o.place < slice_index l.state.pointers o.group.0 → HoldsInMarked l.old l.state.lines l.marks.on o.group.0;
-  within : (trees : ℕ → Bool) → IsClosedForAll l.old l.state trees → trees l.fn.root.0 ≡ true → IsWithin l.fn.marks.on trees → IsWithin l.marks.on trees;
+  done : AreDone l.followed.old.now l.followed.state.now.lines l.marks.on l.done;
+  ahead : l.ahead ≤ length l.followed.old.now.nodes;
+  marked : AreMarkedTo l.followed.old.now l.marks.on l.ahead;
+  followed : (i : ℕ) (o : Offer) → i < l.offer-index → slice_index_or (listed_at l.followed.asked.now l.fn.root.0) i o ≡ o → o.place < slice_index l.followed.state.now.pointers o.group.0 → HoldsInMarked l.followed.old.now l.followed.state.now.lines l.marks.on o.group.0;
+  within : (trees : ℕ → Bool) → IsClosedForAll l.followed.old.now l.followed.state.now trees → trees l.fn.root.0 ≡ true → IsWithin l.fn.marks.on trees → IsWithin l.marks.on trees;
 }

@@ -1,13 +1,13 @@
-use Rattle.std.proofs.Common.{refl, arith}
-use Rattle.tcp_lane.proofs.Final.{call_of, talk_is}
+use Rattle.tcp_lane.proofs.Final.{call_of}
 use Rattle.tcp_lane.proofs.serve.serve_streams.Goals as goal
+use Rattle.std.proofs.Common.{refl}
 
-pub returns-then-talk-clause-call : goal.returns-then-talk-clause-call
-returns-then-talk-clause-call g c =
-    let n = c.no_talk-talk.ensures in
-    call_of _ _ _ _ _ _ (omega (arith, c.known.ensures)) (talk_is _ n.0 n.1 n.2 n.3) c.serve_turns-ended.ensures.served (λ h. c.close.ensures.told) (λ h. absurd (cc (h, c.if-talk.true))) c.close.ensures.faults refl refl refl refl
+pub returns-then-talking-clause-call : goal.returns-then-talking-clause-call
+returns-then-talking-clause-call g c =
+    let s = c.serve_turns-ended.ensures.call in
+    call_of _ _ _ _ _ _ _ (g.Q.Streams.told c.close.new.streams) s.1 s.2 (λ h. c.close.ensures.told) (λ h. absurd (cc (h, c.if-talking.true))) c.close.ensures.faults
 
-pub returns-else-talk-clause-call : goal.returns-else-talk-clause-call
-returns-else-talk-clause-call g c =
-    let n = c.no_talk-talk.ensures in
-    call_of _ _ _ _ _ _ (omega (arith, c.known.ensures)) (talk_is _ n.0 n.1 n.2 n.3) c.serve_turns-ended.ensures.served (λ h. absurd (cc (h, c.if-talk.false))) (λ h. refl) refl refl refl refl refl
+pub returns-else-talking-clause-call : goal.returns-else-talking-clause-call
+returns-else-talking-clause-call g c =
+    let s = c.serve_turns-ended.ensures.call in
+    call_of _ _ _ _ _ _ _ (g.Q.Streams.told c.serve_turns-ended.new.port) s.1 s.2 (λ h. absurd (cc (h, c.if-talking.false))) (λ h. refl) refl

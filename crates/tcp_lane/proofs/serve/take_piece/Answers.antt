@@ -4,7 +4,7 @@ use Rattle.tcp_lane.proofs.serve.take_piece.Goals as goal
 
 pub returns-then-not-is_on-clause-taken : goal.returns-then-not-is_on-clause-taken
 returns-then-not-is_on-clause-taken g c =
-    piece_over _ _ _ _ _ _ _ _ _ _ _ _ _ _ _ (c.as_slice.ensures.value ∙ c.joined-octets.ensures) c.answer_all-fared.ensures.answered (sym c.is_on.ensures ∙ c.if-not-is_on.true) c.close.ensures.told c.close.ensures.faults c.close.ensures.shut c.step_of.ensures
+    piece_over _ _ _ _ _ _ _ _ _ _ _ _ _ _ _ (c.as_slice.ensures.value ∙ c.joined-octets.ensures) c.answer_all-fared.ensures.answered (sym c.is_on.ensures ∙ c.if-not-is_on.true) c.close.ensures.told c.close.ensures.faults c.close.ensures.shut c.step_after.ensures
 
 pub returns-then-is_overlong-clause-taken : goal.returns-then-is_overlong-clause-taken
 returns-then-is_overlong-clause-taken g c =

@@ -3,4 +3,4 @@ use Rattle.drive.proofs.Several.{given_up}
 use Rattle.drive.proofs.loan.AnySendsDeskFeeder.send.Goals as goal
 
 pub returns-else-may_read : goal.returns-else-may_read
-returns-else-may_read g c = given_up (arc_value c.args.desk.now.topology) c.args.desk.now.turns (g.S.Source.told c.args.self.now).past (g.S.Source.told c.args.self.now).faults c.args.feeder.now c.give_up.new.self c.requires.feeder c.give_up.ensures
+returns-else-may_read g c = given_up (arc_value c.args.desk.now.topology) c.args.desk.now.turns (g.S.Source.told c.args.self.now) c.args.feeder.now c.give_up.new.self c.requires.feeder c.give_up.ensures

@@ -1,4 +1,4 @@
-use Rattle.std.proofs.Common.{◌≡◌, IfSome, List, Option, ap, sym, subst, ◌∙◌}
+use Rattle.std.proofs.Common.{◌≡◌, IfSome, Option, ap, sym, subst, ◌∙◌}
 use Rattle.map_model.specs.Batch.{IsApplied, IsBatch}
 use Rattle.map_model.specs.Market.{Market}
 use Rattle.map_repair.specs.Repaired.{IsWithinTwiceSpread}

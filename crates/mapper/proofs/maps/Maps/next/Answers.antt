@@ -23,8 +23,8 @@ next_of-requires-clause-written g c =
     let topology : c.topology.result.now ≡ c.self.inside.publisher.newest.plan = c.topology.ensures ∙ ap (λ (w : Version). w.plan) c.newest-newest.ensures in
     subst (λ (t : Plan). IsWritten t c.self.inside.current) (sym topology) (written_of c.self.inside.publisher.newest c.self.inside.current c.self.invariant.2)
 
-pub next_of-requires-clause-spare : goal.next_of-requires-clause-spare
-next_of-requires-clause-spare g c =
+pub after_batch-requires-clause-spare : goal.after_batch-requires-clause-spare
+after_batch-requires-clause-spare g c =
     let v : Version = c.self.inside.publisher.newest in
     let old : v.market ≡ c.self.inside.current.instance = ap (λ (w : Version). w.market) c.self.invariant.2.version in
     IfSome_then c.args.spare c.requires.spare (λ s is. is ∙ ap (λ (p : PublisherState). p.newest.market) (sym c.self.view_is) ∙ old)
@@ -37,10 +37,10 @@ between-requires-clause-old g c =
 pub between-requires-clause-new : goal.between-requires-clause-new
 between-requires-clause-new g c =
     let new = c.in_ok-current.current in
-    IsMapForm-IsGood new.instance c.groups-2.ensures.market new.map.lines.items new.map.names.items (c.in_ok-current.ensures.makes.next 0).good
+    IsMapForm-IsGood new.instance c.groups-2.ensures.market new.map.lines.items new.map.names.items ((c.in_ok-current.ensures.makes c.args.batch.now c.in_ok-instance.ensures).next 0).good
 
 pub between-requires-clause-shape : goal.between-requires-clause-shape
-between-requires-clause-shape g c = (c.in_ok-current.ensures.makes.next 0).applied.shape
+between-requires-clause-shape g c = ((c.in_ok-current.ensures.makes c.args.batch.now c.in_ok-instance.ensures).next 0).applied.shape
 
 -- what changes between the parts of the newest version and those of the next one
 between : (g : Over) (c : In_ok-delta g)
@@ -65,7 +65,7 @@ returns-clause-next g c =
     let v : Version = c.self.inside.publisher.newest in
     let d = c.in_ok-delta.delta in
     let topology : c.topology.result.now ≡ v.plan = c.topology.ensures ∙ ap (λ (w : Version). w.plan) c.newest-newest.ensures in
-    let made = subst (λ (t : Plan). Makes t old c.args.batch.now new) topology c.in_ok-current.ensures.makes in
+    let made = subst (λ (t : Plan). Makes t old c.args.batch.now new) topology (c.in_ok-current.ensures.makes c.args.batch.now c.in_ok-instance.ensures) in
     subst (λ (p : PublisherState). IsPrepared p.newest c.args.batch.now (record { current = new; delta = d })) c.self.view_is
     (prepared v old new c.args.batch.now d c.self.invariant.0 c.self.invariant.2 c.groups-2.ensures.market made (between g (goal.at.returns-clause-next g c).In_ok-delta))
 
@@ -78,8 +78,8 @@ returns-clause-counted g c = leads g (goal.at.returns-clause-counted g c).In_ok-
 pub returns-clause-steps : goal.returns-clause-steps
 returns-clause-steps g c = leads g (goal.at.returns-clause-steps g c).In_ok-delta (λ a b. IsWithinTwiceSpread a.market a.lines b.market c.args.steps.now c.next_of.new.steps) c.in_ok-current.ensures.steps
 
-pub next_of-requires-clause-ids : goal.next_of-requires-clause-ids
-next_of-requires-clause-ids g c =
+pub after_batch-requires-clause-ids : goal.after_batch-requires-clause-ids
+after_batch-requires-clause-ids g c =
     let v : Version = c.self.inside.publisher.newest in
     let is = subst IsVersion c.self.invariant.2.version c.self.invariant.0 in
     batch_for v.plan.market c.self.inside.current.instance is.shape c.args.batch.now (subst (λ (p : PublisherState). IsBatch p.newest.plan.market c.args.batch.now) (sym c.self.view_is) c.requires.ids)

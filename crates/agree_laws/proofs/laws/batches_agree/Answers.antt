@@ -1,5 +1,0 @@
-use Rattle.agree_laws.proofs.Applied.{applied_one}
-use Rattle.agree_laws.proofs.laws.batches_agree.Goals as goal
-
-pub returns : goal.returns
-returns c = applied_one

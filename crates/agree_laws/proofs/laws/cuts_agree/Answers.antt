@@ -1,5 +1,0 @@
-use Rattle.agree_laws.proofs.Cuts.{cut_one}
-use Rattle.agree_laws.proofs.laws.cuts_agree.Goals as goal
-
-pub returns : goal.returns
-returns c = cut_one

@@ -1,5 +1,0 @@
-use Rattle.circle_laws.proofs.Best as best
-use Rattle.circle_laws.proofs.laws.best_if_free.Goals as goal
-
-pub returns : goal.returns
-returns c = best.best_if_free

@@ -1,0 +1,4 @@
+pub mod Below
+pub mod Circles
+pub mod Nearest
+pub mod Laws
