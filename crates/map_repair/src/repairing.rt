@@ -9,8 +9,8 @@ ghost use Rattle.map_repair.specs.Determined.{IsRepairedOf};
 ghost use Rattle.map_repair.specs.Repaired.{IsKept, IsLocal, IsStateOf, IsWithinSpread, IsWithinTwiceSpread};
 ghost use Rattle.map_repair.specs.Resumed.{HasRepaired, HasResumed, most_turns};
 
-use crate::change::Change;
 use crate::reaching::reached;
+use crate::renewal::Renewal;
 use crate::trying::{go_back, tried_or_anew};
 use deferred_accept::finish;
 use evict::State;
@@ -39,7 +39,7 @@ pub struct Effort {
 /// `NoMemory`. The state is only to be dropped then.
 pub fn resume<L>(
     alloc: Global,
-    change: &Change<'_>,
+    change: &Renewal<'_>,
     state: &mut State,
     steps: &mut Steps<L>,
 ) -> Result<Effort, NoMemory>
@@ -113,7 +113,7 @@ pub fn repair<L>(
 {
     let mut state = State::of_map(alloc, old, map)?;
     let asked = Asked::build(alloc, old, &state)?;
-    let change = Change {
+    let change = Renewal {
         old,
         map,
         new,

@@ -12,7 +12,7 @@ ghost use Rattle.map_repair.specs.Repaired.{IsStateOf};
 ghost use Rattle.map_repair.specs.Resumed.{most_turns};
 ghost use Rattle.map_repair.specs.Ways.{HasRunOut, IsCutAndMoved, IsResumed, IsThrown};
 
-use crate::change::Change;
+use crate::renewal::Renewal;
 use best_check::{is_best, is_resumable};
 use deferred_accept::run;
 use evict::State;
@@ -74,7 +74,7 @@ fn run_to_best<L>(
 /// can't be told to be: the state is only to be dropped then. Its proposals are counted all the same.
 fn try_moves<L>(
     alloc: Global,
-    change: &Change<'_>,
+    change: &Renewal<'_>,
     state: &mut State,
     marks: &[bool],
     steps: &mut Steps<L>,
@@ -102,7 +102,7 @@ fn try_moves<L>(
 /// Tries to come to the new map by units that move up, in so many turns. Where there are none, the state is one of the old map.
 pub fn tried_or_anew<L>(
     alloc: Global,
-    change: &Change<'_>,
+    change: &Renewal<'_>,
     state: &mut State,
     marks: &[bool],
     steps: &mut Steps<L>,

@@ -15,7 +15,7 @@ mod smallest;
 use evict::State;
 use map_model::Change::{Capacity, Demand};
 use map_model::{Change, GroupId, Instance, MapLines, NodeId, Proposals, Steps};
-use map_repair::{Change, Effort, repair, resume};
+use map_repair::{Effort, Renewal, repair, resume};
 use move_up::Asked;
 use no_memory::NoMemory;
 use stable_check::{CheckRoom, Verdict, check};
@@ -238,7 +238,7 @@ fn effort(alloc: Global, old: &Instance, map: &MapLines, new: &Instance) -> Resu
     let mut steps: Steps<Proposals> = Steps::new();
     let mut state = State::of_map(alloc, old, map)?;
     let asked = Asked::build(alloc, old, &state)?;
-    let change = Change {
+    let change = Renewal {
         old,
         map,
         new,

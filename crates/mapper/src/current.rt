@@ -21,7 +21,7 @@ use deferred_accept::{ended_map, run};
 use demand_feed::{Batch, apply};
 use evict::State;
 use map_model::{Instance, MapLines, Steps};
-use map_repair::{Change, resume};
+use map_repair::{Renewal, resume};
 use map_text::{Cuts, Written, write_after, write_first};
 use move_up::Asked;
 use no_memory::NoMemory;
@@ -133,7 +133,7 @@ fn repaired<L>(
 {
     let before = steps.count();
     let asked = take_asked(alloc, &old.instance, &kept.state, &mut kept.asked)?;
-    let change = Change {
+    let change = Renewal {
         old: &old.instance,
         map: &old.map,
         new,
