@@ -52,7 +52,7 @@ pub record IsOverNewest {T : Type 0} (h over : List Version) (log : List Turn) (
   pub stays : sum_by (λ t. refused_of t.came) log ≡ 0 → after.door_faults ≡ before.door_faults
   pub ended_is : ended ≡ served
 
--- or, where its closing look was refused (its end is a fault of the cell or of the port, of which `glb` answers 9 or 5, or a status that comes before these), over what it had seen, which is a history from the same first version on, of which and the mapper's history one begins the other, and then, if a look at a datagram was refused too, its door counted both;
+-- or, where its closing look was refused (its end is a fault of the cell or of the port, of which `glb` answers 9 or 5, or that its turns are spent, of which it answers 6, or a status that comes before these), over what it had seen, which is a history from the same first version on, of which and the mapper's history one begins the other, and then, if a look at a datagram was refused too, its door counted both;
 pub record IsOverSeen {T : Type 0} (first : Version) (h over : List Version) (served ended : Ended) (before after : ServerTold T) : Type 0 where
   pub first_is : IsPrefix (first ∷ []) over
   pub beside : IsPrefix over h ⊎ IsPrefix h over
