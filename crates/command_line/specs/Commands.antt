@@ -1,15 +1,14 @@
--- A command of the code, as what its words ask for.
+-- A command by its words.
 use Rattle.std.specs.Prelude.{option_map}
-use Rattle.command_line.specs.Asked.{Ask, check, answer, map_of, repair, serve, large, places}
 use Rattle.command_line.specs.declared.command.Command.{Command}
 use Rattle.command_line.specs.declared.command.Command.TheVariants.{Check, Answer, Map, Repair, Serve, Large, Places}
 
--- a command, as what it asks for
-abbrev pub ask_of : Command → Ask
-ask_of (Check topology map) = check topology.now map.now
-ask_of (Answer topology map addr hex) = answer topology.now map.now addr.now hex.now
-ask_of (Map topology) = map_of topology.now
-ask_of (Repair topology map changes) = repair topology.now map.now changes.now
-ask_of (Serve topology listen workers tcp feed2 feed3 feed4) = serve topology.now listen.now (option_map (λ w. w.now) workers) (option_map (λ t. t.now) tcp) (option_map (λ f. f.now) feed2) (option_map (λ f. f.now) feed3) (option_map (λ f. f.now) feed4)
-ask_of (Large groups) = large groups.now
-ask_of (Places topology) = places topology.now
+-- the same command, each of its words as f has it
+abbrev pub each : {A B : Type 0} → (A → B) → Command A → Command B
+each f (Check topology map) = Check (f topology) (f map)
+each f (Answer topology map addr hex) = Answer (f topology) (f map) (f addr) (f hex)
+each f (Map topology) = Map (f topology)
+each f (Repair topology map changes) = Repair (f topology) (f map) (f changes)
+each f (Serve topology listen workers tcp feed2 feed3 feed4) = Serve (f topology) (f listen) (option_map f workers) (option_map f tcp) (option_map f feed2) (option_map f feed3) (option_map f feed4)
+each f (Large groups) = Large (f groups)
+each f (Places topology) = Places (f topology)

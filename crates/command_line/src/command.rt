@@ -1,39 +1,40 @@
 //! A command line that is taken.
 
-/// A command line that is taken. Its words are as they were given, and none is looked into yet.
+/// A command line that is taken. Its words are as they were given, and none is looked into yet. Clauses speak of one
+/// whose words are lists of octets.
 #[derive(Clone, Copy)]
-pub enum Command<'a> {
+pub enum Command<T> {
     Check {
-        topology: &'a str,
-        map: &'a str,
+        topology: T,
+        map: T,
     },
     Answer {
-        topology: &'a str,
-        map: &'a str,
-        addr: &'a str,
-        hex: &'a str,
+        topology: T,
+        map: T,
+        addr: T,
+        hex: T,
     },
     Map {
-        topology: &'a str,
+        topology: T,
     },
     Repair {
-        topology: &'a str,
-        map: &'a str,
-        changes: &'a str,
+        topology: T,
+        map: T,
+        changes: T,
     },
     Serve {
-        topology: &'a str,
-        listen: &'a str,
-        workers: Option<&'a str>,
-        tcp: Option<&'a str>,
-        feed2: Option<&'a str>,
-        feed3: Option<&'a str>,
-        feed4: Option<&'a str>,
+        topology: T,
+        listen: T,
+        workers: Option<T>,
+        tcp: Option<T>,
+        feed2: Option<T>,
+        feed3: Option<T>,
+        feed4: Option<T>,
     },
     Large {
-        groups: &'a str,
+        groups: T,
     },
     Places {
-        topology: &'a str,
+        topology: T,
     },
 }

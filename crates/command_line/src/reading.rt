@@ -2,7 +2,7 @@
 ghost use Rattle.std.specs.Prelude.{◌≡◌, IfOk, option_map, option_and_then};
 ghost use Rattle.clap.specs.Words.{first_of, found_of, rows_of, subcommand_rows_of};
 ghost use Rattle.command_line.specs.Asked.{answer_of, asked, asked_by, check_of, large_of, map_command_of, places_of, repair_of, serve_of, texts};
-ghost use Rattle.command_line.specs.Commands.{ask_of};
+ghost use Rattle.command_line.specs.Commands.{each};
 
 use crate::command::Command;
 use crate::declared::declared;
@@ -17,16 +17,16 @@ fn value<'a>(found: &ArgMatches<'a>, id: &str) -> Option<&'a str>
     found.get_str(id)
 }
 
-fn check<'a>(found: &ArgMatches<'a>) -> Option<Command<'a>>
-    ensures { option_map ask_of result ≡ check_of (rows_of (found_of found.now)) }
+fn check<'a>(found: &ArgMatches<'a>) -> Option<Command<&'a str>>
+    ensures { option_map (each (λ word. word.now)) result ≡ check_of (rows_of (found_of found.now)) }
 {
     let topology = value(found, "TOPOLOGY")?;
     let map = value(found, "MAP")?;
     Some(Command::Check { topology, map })
 }
 
-fn answer<'a>(found: &ArgMatches<'a>) -> Option<Command<'a>>
-    ensures { option_map ask_of result ≡ answer_of (rows_of (found_of found.now)) }
+fn answer<'a>(found: &ArgMatches<'a>) -> Option<Command<&'a str>>
+    ensures { option_map (each (λ word. word.now)) result ≡ answer_of (rows_of (found_of found.now)) }
 {
     let topology = value(found, "TOPOLOGY")?;
     let map = value(found, "MAP")?;
@@ -40,15 +40,15 @@ fn answer<'a>(found: &ArgMatches<'a>) -> Option<Command<'a>>
     })
 }
 
-fn map<'a>(found: &ArgMatches<'a>) -> Option<Command<'a>>
-    ensures { option_map ask_of result ≡ map_command_of (rows_of (found_of found.now)) }
+fn map<'a>(found: &ArgMatches<'a>) -> Option<Command<&'a str>>
+    ensures { option_map (each (λ word. word.now)) result ≡ map_command_of (rows_of (found_of found.now)) }
 {
     let topology = value(found, "TOPOLOGY")?;
     Some(Command::Map { topology })
 }
 
-fn repair<'a>(found: &ArgMatches<'a>) -> Option<Command<'a>>
-    ensures { option_map ask_of result ≡ repair_of (rows_of (found_of found.now)) }
+fn repair<'a>(found: &ArgMatches<'a>) -> Option<Command<&'a str>>
+    ensures { option_map (each (λ word. word.now)) result ≡ repair_of (rows_of (found_of found.now)) }
 {
     let topology = value(found, "TOPOLOGY")?;
     let map = value(found, "MAP")?;
@@ -60,8 +60,8 @@ fn repair<'a>(found: &ArgMatches<'a>) -> Option<Command<'a>>
     })
 }
 
-fn serve<'a>(found: &ArgMatches<'a>) -> Option<Command<'a>>
-    ensures { option_map ask_of result ≡ serve_of (rows_of (found_of found.now)) }
+fn serve<'a>(found: &ArgMatches<'a>) -> Option<Command<&'a str>>
+    ensures { option_map (each (λ word. word.now)) result ≡ serve_of (rows_of (found_of found.now)) }
 {
     let topology = value(found, "TOPOLOGY")?;
     let listen = value(found, "listen")?;
@@ -81,22 +81,22 @@ fn serve<'a>(found: &ArgMatches<'a>) -> Option<Command<'a>>
     })
 }
 
-fn large<'a>(found: &ArgMatches<'a>) -> Option<Command<'a>>
-    ensures { option_map ask_of result ≡ large_of (rows_of (found_of found.now)) }
+fn large<'a>(found: &ArgMatches<'a>) -> Option<Command<&'a str>>
+    ensures { option_map (each (λ word. word.now)) result ≡ large_of (rows_of (found_of found.now)) }
 {
     let groups = value(found, "N")?;
     Some(Command::Large { groups })
 }
 
-fn places<'a>(found: &ArgMatches<'a>) -> Option<Command<'a>>
-    ensures { option_map ask_of result ≡ places_of (rows_of (found_of found.now)) }
+fn places<'a>(found: &ArgMatches<'a>) -> Option<Command<&'a str>>
+    ensures { option_map (each (λ word. word.now)) result ≡ places_of (rows_of (found_of found.now)) }
 {
     let topology = value(found, "TOPOLOGY")?;
     Some(Command::Places { topology })
 }
 
-fn named<'a>(name: &str, found: &ArgMatches<'a>) -> Option<Command<'a>>
-    ensures { option_map ask_of result ≡ asked_by name.now (rows_of (found_of found.now)) }
+fn named<'a>(name: &str, found: &ArgMatches<'a>) -> Option<Command<&'a str>>
+    ensures { option_map (each (λ word. word.now)) result ≡ asked_by name.now (rows_of (found_of found.now)) }
 {
     match name {
         "check" => check(found),
@@ -110,8 +110,8 @@ fn named<'a>(name: &str, found: &ArgMatches<'a>) -> Option<Command<'a>>
     }
 }
 
-fn command_of<'a>(matches: &ArgMatches<'a>) -> Option<Command<'a>>
-    ensures { option_map ask_of result
+fn command_of<'a>(matches: &ArgMatches<'a>) -> Option<Command<&'a str>>
+    ensures { option_map (each (λ word. word.now)) result
         ≡ option_and_then (λ s. asked_by s.0 s.1) (subcommand_rows_of matches.now) }
 {
     let (name, found) = matches.subcommand()?;
@@ -124,8 +124,11 @@ fn command_of<'a>(matches: &ArgMatches<'a>) -> Option<Command<'a>>
 /// # Errors
 ///
 /// `NoMemory`.
-pub fn read_words<'a>(alloc: Global, words: &'a [String]) -> Result<Option<Command<'a>>, NoMemory>
-    ensures { IfOk result (λ c. option_map ask_of c ≡ asked (texts words.entry.now)) }
+pub fn read_words<'a>(
+    alloc: Global,
+    words: &'a [String],
+) -> Result<Option<Command<&'a str>>, NoMemory>
+    ensures { IfOk result (λ c. option_map (each (λ word. word.now)) c ≡ asked (texts words.entry.now)) }
 {
     match declared(alloc)?.try_get_matches_from(words) {
         Ok(matches) => Ok(command_of(&matches)),

@@ -26,7 +26,7 @@ fn fed_by(feeds: &[Option<&str>; 3]) -> &'static str {
 }
 
 /// What a command is called here.
-fn kind(command: &Command) -> &'static str {
+fn kind(command: &Command<&str>) -> &'static str {
     match command {
         Command::Check { .. } => "check",
         Command::Answer { .. } => "answer",

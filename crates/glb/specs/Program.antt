@@ -99,11 +99,11 @@ IsGoodRun turns (Some (large groups)) before after = IsSummedRun groups before a
 
 -- what is promised of a run of the whole program, whose words ask for this task
 pub record IsPromised (turns : ℕ) (task : Option Task) (before after : Surroundings) (result : Status) : Type 0 where
-  -- What it does: a command that says one text puts it on the output, and touches nothing else but the files; `serve` publishes a history of good maps, and its lanes answer from it; `large` puts the summary of a run, line by line, and ends with status 0, with a fault of the output, or with want of memory. Where files or feed don't tell what they hold, there are octets for which that is so.
+  -- What it does: a command that says one text puts it on the output, and touches nothing else but the files; `serve` publishes a history of good maps, and its lanes answer from it; `large` puts the summary of a run, line by line, and ends with status 0, with a fault of the output, or with want of memory. What the files say is what the octets say that were loaded; where files or feed don't tell them, there are octets for which that is so.
   pub run : IsProgramRun turns task before after result
   -- The files of the words are loaded in their order, once each, and each only where all before it say something,
   pub noted : BothTell before.files.past after.files.past (AreLoadsOf (loads_of task))
-  -- and all of these, unless the answer is a fault or want of memory.
+  -- and all of these, unless the answer is a fault of the files or of a feed (status 3), or want of memory.
   pub loaded : result ≢ status.SourceFault → result ≢ status.NoMemory → BothTell before.files.past after.files.past (AreLoaded (loads_of task))
   -- A fault of the files, of a feed or of an output is answered only where its count rose, and their counts stand where it is not answered; those of several feeds where an output's fault isn't answered either. Of `serve` also: a fault of a port is answered only where the count of the port of one of the first lanes rose, or that of the streams, turns were spent only where a feed or one of the lanes took all of them, and a fault of the cell is answered only where the count of the door of one of the lanes rose, or that door showed a serial past those whose texts the maps got.
   pub causes : AreCauses turns task before after result

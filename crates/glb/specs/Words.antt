@@ -4,6 +4,8 @@ use Rattle.addr_text.specs.declared.address.Listen.{Listen}
 use Rattle.addr_text.specs.Addresses.{listen_of}
 use Rattle.big_world.specs.declared.TheConstants.{LARGEST_WORLD}
 use Rattle.command_line.specs.Asked as line
+use Rattle.command_line.specs.declared.command.Command.{Command}
+use Rattle.command_line.specs.declared.command.Command.TheVariants as command
 use Rattle.glb.specs.Datagram.{Datagram, datagram_of}
 use Rattle.text_parts.specs.Counts.{count_of}
 
@@ -68,14 +70,14 @@ abbrev pub lanes_of : Service → ℕ
 lanes_of ask = ask.workers + streams_of ask.tcp
 
 -- a command line, as what it asks for: an address, digits and numbers have to be in their grammars
-abbrev pub asked_by : line.Ask → Option Task
-asked_by (line.check topology map) = Some (say (check topology map))
-asked_by (line.map_of topology) = Some (say (map_from topology))
-asked_by (line.places topology) = Some (say (places topology))
-asked_by (line.answer topology map addr digits) = option_map say (option_map (answer topology map) (datagram_of addr digits))
-asked_by (line.repair topology map changes) = Some (say (repair topology map changes))
-asked_by (line.serve topology listen workers tcp feed2 feed3 feed4) = option_map serve (service_of topology (given (feed2 ∷ feed3 ∷ feed4 ∷ [])) listen workers tcp)
-asked_by (line.large groups) = option_map large (count_of LARGEST_WORLD groups)
+abbrev pub asked_by : Command (List ℕ) → Option Task
+asked_by (command.Check topology map) = Some (say (check topology map))
+asked_by (command.Map topology) = Some (say (map_from topology))
+asked_by (command.Places topology) = Some (say (places topology))
+asked_by (command.Answer topology map addr digits) = option_map say (option_map (answer topology map) (datagram_of addr digits))
+asked_by (command.Repair topology map changes) = Some (say (repair topology map changes))
+asked_by (command.Serve topology listen workers tcp feed2 feed3 feed4) = option_map serve (service_of topology (given (feed2 ∷ feed3 ∷ feed4 ∷ [])) listen workers tcp)
+asked_by (command.Large groups) = option_map large (count_of LARGEST_WORLD groups)
 
 -- What the words ask for, if they are taken: the declaration of the command line takes them, and they are in their grammars. The first is the program's name.
 unfoldable pub asked : List (List ℕ) → Option Task

@@ -3,7 +3,7 @@ ghost use Rattle.std.specs.Prelude.{◌≡◌, ◌%◌, ◌≤◌, IfOk, IfSome,
 ghost use Rattle.std.specs.Option.{option_map};
 ghost use Rattle.addr_text.specs.Addresses.{addr_of};
 ghost use Rattle.command_line.specs.Asked.{texts};
-ghost use Rattle.command_line.specs.Commands.{ask_of as line_of};
+ghost use Rattle.command_line.specs.Commands.{each};
 ghost use Rattle.text_parts.specs.Counts.{count_of};
 ghost use Rattle.big_world.specs.declared.TheConstants.{LARGEST_WORLD};
 ghost use Rattle.glb.specs.Words.{answer, asked, asked_by, given, large, most_workers, say, serve, service_of, tcp_of, workers_of};
@@ -182,7 +182,7 @@ fn order_of(command: Option<Command<'_>>) -> Option<Order<'_>>
 
 /// A command line, as an order: none where a word is not in its grammar.
 fn read_command(alloc: Global, line: Line<'_>) -> Result<Option<Order<'_>>, NoMemory>
-    ensures asked { IfOk result (λ c. option_map task_of c ≡ asked_by (line_of line.entry)) }
+    ensures asked { IfOk result (λ c. option_map task_of c ≡ asked_by (each (λ word. word.now) line.entry)) }
     ensures manned { IfOk result IsManned }
 {
     match line {

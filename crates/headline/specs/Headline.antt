@@ -232,9 +232,9 @@ IsHistory (Some t) (v ∷ maps) = IsFirst t v × ((n : ℕ) (x y : Version) → 
     Some x → slice_get (v ∷ maps) (n + 1) ≡ Some y → (batch : List Change) × IsNext x batch y)
 
 -- 4. REPLIES. A worker is told of the map of a number; a message comes, and a reply is tried; one
--- comes that has no reply; one comes that has one and finds no map to look at, with which the
--- worker ends. With a message stands the number of the newest map that the worker knew when it
--- asked for it. By its draw, made of its own number and the message's, a reply picks a unit.
+-- comes that has no reply; one comes that has one, and the worker finds no map to look at. With a
+-- message stands the number of the newest map that the worker knew when it asked for it. By its
+-- draw, made of its own number and the message's, a reply picks a unit.
 abbrev pub draw : ℕ → ℕ → ℕ
 draw w n = ((n + 1) * 11400714819323198485 + w * 2 ^ 60) % 2 ^ 64
 
@@ -247,7 +247,8 @@ pub record IsReply (by : Way) (maps : List Version) (d : ℕ) (p : Packet) (r : 
   pub octets : reply_of map p.from.addr p.octets d by ≡ Some r.octets
 
 -- what happens to worker w is right, from its message n on, where `newest` is the newest map that
--- it used or was told of: it knows no older one, and no reply is of an older one than it knows
+-- it used or was told of: it knows no older one, and no reply is of an older one than it knows.
+-- Of a message at which it found no map nothing is said
 abbrev pub AreRight : Way → List Version → ℕ → ℕ → ℕ → List Event → Type 0
 AreRight by maps w n newest [] = Unit {0}
 AreRight by maps w n newest (told m ∷ events) = AreRight by maps w n (max newest m) events
