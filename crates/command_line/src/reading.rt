@@ -18,7 +18,8 @@ fn value<'a>(found: &ArgMatches<'a>, id: &str) -> Option<&'a str>
 }
 
 fn check<'a>(found: &ArgMatches<'a>) -> Option<Command<&'a str>>
-    ensures { option_map (each (λ word. word.now)) result ≡ check_of (rows_of (found_of found.now)) }
+    ensures { option_map (each (λ word. word.now)) result
+        ≡ check_of (rows_of (found_of found.now)) }
 {
     let topology = value(found, "TOPOLOGY")?;
     let map = value(found, "MAP")?;
@@ -26,7 +27,8 @@ fn check<'a>(found: &ArgMatches<'a>) -> Option<Command<&'a str>>
 }
 
 fn answer<'a>(found: &ArgMatches<'a>) -> Option<Command<&'a str>>
-    ensures { option_map (each (λ word. word.now)) result ≡ answer_of (rows_of (found_of found.now)) }
+    ensures { option_map (each (λ word. word.now)) result
+        ≡ answer_of (rows_of (found_of found.now)) }
 {
     let topology = value(found, "TOPOLOGY")?;
     let map = value(found, "MAP")?;
@@ -41,14 +43,16 @@ fn answer<'a>(found: &ArgMatches<'a>) -> Option<Command<&'a str>>
 }
 
 fn map<'a>(found: &ArgMatches<'a>) -> Option<Command<&'a str>>
-    ensures { option_map (each (λ word. word.now)) result ≡ map_command_of (rows_of (found_of found.now)) }
+    ensures { option_map (each (λ word. word.now)) result
+        ≡ map_command_of (rows_of (found_of found.now)) }
 {
     let topology = value(found, "TOPOLOGY")?;
     Some(Command::Map { topology })
 }
 
 fn repair<'a>(found: &ArgMatches<'a>) -> Option<Command<&'a str>>
-    ensures { option_map (each (λ word. word.now)) result ≡ repair_of (rows_of (found_of found.now)) }
+    ensures { option_map (each (λ word. word.now)) result
+        ≡ repair_of (rows_of (found_of found.now)) }
 {
     let topology = value(found, "TOPOLOGY")?;
     let map = value(found, "MAP")?;
@@ -61,7 +65,8 @@ fn repair<'a>(found: &ArgMatches<'a>) -> Option<Command<&'a str>>
 }
 
 fn serve<'a>(found: &ArgMatches<'a>) -> Option<Command<&'a str>>
-    ensures { option_map (each (λ word. word.now)) result ≡ serve_of (rows_of (found_of found.now)) }
+    ensures { option_map (each (λ word. word.now)) result
+        ≡ serve_of (rows_of (found_of found.now)) }
 {
     let topology = value(found, "TOPOLOGY")?;
     let listen = value(found, "listen")?;
@@ -82,21 +87,24 @@ fn serve<'a>(found: &ArgMatches<'a>) -> Option<Command<&'a str>>
 }
 
 fn large<'a>(found: &ArgMatches<'a>) -> Option<Command<&'a str>>
-    ensures { option_map (each (λ word. word.now)) result ≡ large_of (rows_of (found_of found.now)) }
+    ensures { option_map (each (λ word. word.now)) result
+        ≡ large_of (rows_of (found_of found.now)) }
 {
     let groups = value(found, "N")?;
     Some(Command::Large { groups })
 }
 
 fn places<'a>(found: &ArgMatches<'a>) -> Option<Command<&'a str>>
-    ensures { option_map (each (λ word. word.now)) result ≡ places_of (rows_of (found_of found.now)) }
+    ensures { option_map (each (λ word. word.now)) result
+        ≡ places_of (rows_of (found_of found.now)) }
 {
     let topology = value(found, "TOPOLOGY")?;
     Some(Command::Places { topology })
 }
 
 fn named<'a>(name: &str, found: &ArgMatches<'a>) -> Option<Command<&'a str>>
-    ensures { option_map (each (λ word. word.now)) result ≡ asked_by name.now (rows_of (found_of found.now)) }
+    ensures { option_map (each (λ word. word.now)) result
+        ≡ asked_by name.now (rows_of (found_of found.now)) }
 {
     match name {
         "check" => check(found),
@@ -128,7 +136,8 @@ pub fn read_words<'a>(
     alloc: Global,
     words: &'a [String],
 ) -> Result<Option<Command<&'a str>>, NoMemory>
-    ensures { IfOk result (λ c. option_map (each (λ word. word.now)) c ≡ asked (texts words.entry.now)) }
+    ensures { IfOk result (λ c. option_map (each (λ word. word.now)) c
+        ≡ asked (texts words.entry.now)) }
 {
     match declared(alloc)?.try_get_matches_from(words) {
         Ok(matches) => Ok(command_of(&matches)),

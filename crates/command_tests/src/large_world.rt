@@ -1,6 +1,10 @@
-//! `large`: worlds of sixty-four groups and of two thousand, the same at each run, and an output that fails at its third line.
+//! Worlds of thousands: `large`, the same at each run, and over an output that fails at its third line; and each command over the
+//! files of such a world.
+use big_world::make;
 use glb::Status;
 use no_memory::NoMemory;
+use outside::{File, MemShelf};
+use std::alloc::Global;
 use std::sync::Wait;
 use std::test::Fail;
 use std::thread::Threads;
@@ -61,5 +65,79 @@ fn is_whole<R: Threads + Wait + Sync + AllocGlobal>(rt: &R) -> Result<bool, NoMe
 #[test]
 fn large_of_thousands_is_good(rt: HostRuntime) -> Result<(), Fail> {
     assert!(rt; is_whole(&rt)?);
+    Ok(())
+}
+
+/// How many groups the world of the files has, and for how many octets its output has room.
+const GROUPS: u32 = 2_048;
+
+const LARGE_ROOM: usize = 1 << 20;
+
+/// The changes of the files: a group's demand, and a pool that takes nothing more.
+const CHANGES: &[u8] = b"demand g0 1\ncapacity r0-0 0\n";
+
+/// A file of these octets.
+fn file_of(alloc: Global, name: &'static str, octets: &[u8]) -> Result<File, NoMemory> {
+    Ok(File::new(name, Vec::from_slice(alloc, octets)?))
+}
+
+/// The files of that world, with this map.
+fn shelf_over(alloc: Global, topology: &[u8], map: &[u8]) -> Result<MemShelf, NoMemory> {
+    let mut files = Vec::new(alloc);
+    files.push(file_of(alloc, "t", topology)?)?;
+    files.push(file_of(alloc, "m", map)?)?;
+    files.push(file_of(alloc, "c", CHANGES)?)?;
+    MemShelf::new(alloc, files, 8, Vec::new(alloc))
+}
+
+/// What comes of a command over the files of that world, with this map.
+fn over<R: Threads + Wait + Sync + AllocGlobal>(
+    rt: &R,
+    words: &[&str],
+    topology: &[u8],
+    map: &[u8],
+) -> Result<Came, NoMemory> {
+    let files = shelf_over(rt.alloc(), topology, map)?;
+    came_over(rt, words, files, NEVER, LARGE_ROOM)
+}
+
+/// Whether a whole map of thousands of lines was put.
+fn is_map(came: &Came) -> bool {
+    let text = came.text();
+    came.status == Status::Ok
+        && text.len() > 20_000
+        && text.starts_with(b"glb map 2\n")
+        && text.ends_with(b"\nend\n")
+}
+
+/// The first command that comes out otherwise over a world of thousands: one that maps it, checks the map, or repairs it.
+fn otherwise<R: Threads + Wait + Sync + AllocGlobal>(
+    rt: &R,
+) -> Result<Option<&'static str>, NoMemory> {
+    let (topology, _) = make(rt.alloc(), GROUPS)?;
+    let mapped = over(rt, &["glb", "map", "t"], topology.as_slice(), b"")?;
+    if !is_map(&mapped) {
+        return Ok(Some("map"));
+    }
+    let checked = over(
+        rt,
+        &["glb", "check", "t", "m"],
+        topology.as_slice(),
+        mapped.text(),
+    )?;
+    if !(checked.status == Status::Ok && checked.text() == b"good\n".as_slice()) {
+        return Ok(Some("check"));
+    }
+    let words = ["glb", "repair", "t", "m", "c"];
+    let repaired = over(rt, &words, topology.as_slice(), mapped.text())?;
+    if !(is_map(&repaired) && repaired.text() != mapped.text()) {
+        return Ok(Some("repair"));
+    }
+    Ok(None)
+}
+
+#[test]
+fn commands_over_thousands(rt: HostRuntime) -> Result<(), Fail> {
+    assert_eq!(rt; otherwise(&rt)?, None);
     Ok(())
 }

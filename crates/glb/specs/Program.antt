@@ -107,7 +107,7 @@ pub record IsPromised (turns : ℕ) (task : Option Task) (before after : Surroun
   pub loaded : result ≢ status.SourceFault → result ≢ status.NoMemory → BothTell before.files.past after.files.past (AreLoaded (loads_of task))
   -- A fault of the files, of a feed or of an output is answered only where its count rose, and their counts stand where it is not answered; those of several feeds where an output's fault isn't answered either. Of `serve` also: a fault of a port is answered only where the count of the port of one of the first lanes rose, or that of the streams, turns were spent only where a feed or one of the lanes took all of them, and a fault of the cell is answered only where the count of the door of one of the lanes rose, or that door showed a serial past those whose texts the maps got.
   pub causes : AreCauses turns task before after result
-  -- Status 0 says, but of `large`, that the files hold a topology; of `check`, `answer` and `repair` also that they hold a map that is good for it, and of `repair` changes; and that the output got, in one put, `good`, or of `map` the text of a map that is good for the topology and group-best, mapped from scratch, or of `places` how many units stand at each place by such a map, or of `answer` the reply of the map, or of `repair` the text of a map that is good for the changed numbers and keeps the rest. Of `serve` it says that the maps hold the texts of a history of good maps, the first one mapped from scratch, and nothing else, and that each of the first lanes, and that for conversations where it is asked for, answered from that history until its port's or its streams' end or its gate's stop. Of `large` it says that the output got the ten lines of the summary of a run.
+  -- Status 0 says, but of `large`, that a load of this run gave octets which say a topology; of `check`, `answer` and `repair` also that one gave a map that is good for it, and of `repair` that one gave changes; and that the output got, in one put, `good`, or of `map` the text of a map that is good for the topology and group-best, mapped from scratch, or of `places` how many units stand at each place by such a map, or of `answer` the reply of the map, or of `repair` the text of a map that is good for the changed numbers and keeps the rest. Of `serve` it says that the maps hold the texts of a history of good maps, the first one mapped from scratch, and nothing else, and that each of the first lanes, and that for conversations where it is asked for, answered from that history until its port's or its streams' end or its gate's stop. Of `large` it says that the output got the ten lines of the summary of a run.
   pub good : result ≡ status.Ok → IsGoodRun turns task before after
   -- Where the files are told to hold a topology, for `check`, `answer` and `repair` a map that is good, and for `repair` changes, and no count of faults rises, there is no other answer but status 0 and want of memory; of `serve` also that turns were spent, where they were, and that a door showed a serial that was not published, where one did. For `large` nothing is asked of the files.
   pub complete : IsSound task before.files.past → AreQuiet task before after → IsLeft turns task before after result

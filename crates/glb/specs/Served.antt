@@ -84,7 +84,7 @@ abbrev pub IsStreamWell : Option Listen → ℕ → List Version → ℕ → Str
 IsStreamWell None turns history w before after = after ≡ before
 IsStreamWell (Some at) turns history w before after = IsStreamWellDone turns history w before after
 
--- The file holds a topology; a history of good maps begins with the topology's own numbers, mapped from scratch, and goes on by the batches of the feeds; the maps got the texts of that history and nothing else; the output got what the feed's lines come to, or the merged text of several feeds; and each of the first lanes, and that for conversations where it is asked for, was opened and answered from that history until it ended. What the run is said to have done is of the same history.
+-- A load of this run gave the octets of a topology; a history of good maps begins with the topology's own numbers, mapped from scratch, and goes on by the batches of the feeds; the maps got the texts of that history and nothing else; the output got what the feed's lines come to, or the merged text of several feeds; and each of the first lanes, and that for conversations where it is asked for, was opened and answered from that history until it ended. What the run is said to have done is of the same history.
 pub record IsWellServed (turns : ℕ) (ask : Service) (before after : Surroundings) : Type 0 where
   pub topology : Plan
   pub is_plan : IsPlan topology

@@ -181,8 +181,9 @@ fn order_of(command: Option<Command<'_>>) -> Option<Order<'_>>
 }
 
 /// A command line, as an order: none where a word is not in its grammar.
-fn read_command(alloc: Global, line: Line<'_>) -> Result<Option<Order<'_>>, NoMemory>
-    ensures asked { IfOk result (λ c. option_map task_of c ≡ asked_by (each (λ word. word.now) line.entry)) }
+fn read_command<'a>(alloc: Global, line: Line<&'a str>) -> Result<Option<Order<'a>>, NoMemory>
+    ensures asked { IfOk result (λ c. option_map task_of c
+        ≡ asked_by (each (λ word. word.now) line.entry)) }
     ensures manned { IfOk result IsManned }
 {
     match line {

@@ -14,7 +14,7 @@ use std::net::{IpAddr, Ipv4Addr, Net, SocketAddr, TcpListener, TcpStream, UdpSoc
 use std::test::Fail;
 use std::thread::{self, join_mut};
 use std::time::Duration;
-use trial_runs::{AllLent, PLAIN, QUERY, Scene, devices_of, lent_of, run};
+use trial_runs::{AllLent, PLAIN, QUERY, Setting, devices_of, lent_of, run};
 
 /// What the client gets: the header of an answer, the question, and one address of the first group's pool.
 const REPLY: &[u8] = &[
@@ -135,7 +135,7 @@ const WORDS: &[&str] = &[
     "127.0.0.1:0",
 ];
 
-const SCENE: Scene = Scene {
+const SETTING: Setting = Setting {
     words: WORDS,
     ..PLAIN
 };
@@ -150,7 +150,7 @@ fn lent_over<P: Port + Drop, Q: Streams + Drop, G: Gate + Drop, M: Pace + Drop>(
     requires { vec_len lanes ≡ MOST_VIEWERS }
     ensures { IfOk result (λ s. (vec_len s.lanes ≡ MOST_VIEWERS) × (vec_len s.more ≡ 3)) }
 {
-    let mut devices = devices_of(alloc, SCENE, b"")?;
+    let mut devices = devices_of(alloc, SETTING, b"")?;
     devices.outputs.out = MemSink::new(alloc, 0, Vec::new(alloc))?;
     Ok(lent_of(devices, lanes, stream, pace))
 }

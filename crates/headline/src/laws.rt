@@ -12,7 +12,8 @@ pub fn agreed()
     ensures { Agree }
 {}
 
-/// The page's words for maps are the program's, and a map has one repaired map at most for the same numbers.
+/// What is good and the best by the page's words is so by the program's, and a map has one repaired map at most for the same
+/// numbers.
 pub fn alike()
     ensures same { Same }
     ensures one { OneIsRepaired }

@@ -13,7 +13,7 @@ use std::collections::LinkedList;
 use std::sync::Wait;
 use std::test::Fail;
 use std::thread::Threads;
-use trial_runs::{AllLent, PLAIN, SERVE_TWO, Scene, devices_of, lent_of, queries, run};
+use trial_runs::{AllLent, PLAIN, SERVE_TWO, Setting, devices_of, lent_of, queries, run};
 
 /// What waits at a lane, and what is waited for at its turns.
 #[derive(Clone, Copy)]
@@ -73,7 +73,7 @@ const IDLE: Held = Held {
 };
 
 /// A session of two workers.
-const TWO_WORKERS: Scene = Scene {
+const TWO_WORKERS: Setting = Setting {
     words: SERVE_TWO,
     ..PLAIN
 };

@@ -6,7 +6,7 @@ use std::sync::Wait;
 use std::test::Fail;
 use std::thread::Threads;
 use trial_runs::{
-    Came, Fails, MemLane, NEVER, ONE, PLAIN, REGION_MAP, SERVE_TWO, Scene, Script, are_joined,
+    Came, Fails, MemLane, NEVER, ONE, PLAIN, REGION_MAP, SERVE_TWO, Script, Setting, are_joined,
     session_of,
 };
 
@@ -424,8 +424,8 @@ fn script_of(failing: Failing, lane: u8) -> Script {
 }
 
 /// A session of two workers, with a feed in pieces of twelve octets.
-fn scene_of(failing: Failing) -> Scene {
-    Scene {
+fn scene_of(failing: Failing) -> Setting {
+    Setting {
         words: SERVE_TWO,
         sizes: &[12; 16],
         loads: failing.of(Load),

@@ -11,7 +11,7 @@ use std::test::Fail;
 use std::thread::Threads;
 use trial_runs::Held::{self, Bytes, Missing, Topology};
 use trial_runs::{
-    Came, GOOD_REGION, NEVER, PLAIN, REGION, ROOM, Row, Scene, ZONE, came_over, comes_with,
+    Came, GOOD_REGION, NEVER, PLAIN, REGION, ROOM, Row, Setting, ZONE, came_over, comes_with,
     first_wrong, session_of,
 };
 
@@ -148,11 +148,11 @@ fn session_over<R: Threads + Wait + Sync + AllocGlobal>(
     rt: &R,
     feed: &[u8],
 ) -> Result<Came, NoMemory> {
-    let scene = Scene {
+    let setting = Setting {
         turns: 1000,
         ..PLAIN
     };
-    session_of(rt, scene, feed, &[])
+    session_of(rt, setting, feed, &[])
 }
 
 /// A line, which is said so many times, and what is written of the last of them.

@@ -7,7 +7,7 @@ use std::sync::Wait;
 use std::test::Fail;
 use std::thread::Threads;
 use trial_runs::{
-    Came, Fails, MemLane, ONE, PLAIN as SCENE, REGION_MAP, SERVE_TWO, Scene, Script, session_of,
+    Came, Fails, MemLane, ONE, PLAIN as SETTING, REGION_MAP, SERVE_TWO, Script, Setting, session_of,
 };
 
 /// Three queries.
@@ -37,15 +37,15 @@ const SERVE_ONE: &[&str] = &[
     "1",
 ];
 
-const TWO_WORKERS: Scene = Scene {
+const TWO_WORKERS: Setting = Setting {
     words: SERVE_TWO,
-    ..SCENE
+    ..SETTING
 };
 
-/// The scene, the feed, the lanes, and what comes of it: the status, what both outputs get, and of the first lanes how many datagrams were taken, and how many replies went.
+/// The setting, the feed, the lanes, and what comes of it: the status, what both outputs get, and of the first lanes how many datagrams were taken, and how many replies went.
 #[derive(Clone, Copy)]
 struct Row {
-    scene: Scene,
+    setting: Setting,
     feed: &'static str,
     lanes: &'static [Script],
     status: Status,
@@ -60,7 +60,7 @@ const BOTH: &str =
 
 /// One worker, who is not named.
 const PLAIN: Row = Row {
-    scene: SCENE,
+    setting: SETTING,
     feed: "",
     lanes: &[],
     status: Status::Ok,
@@ -72,9 +72,9 @@ const PLAIN: Row = Row {
 const ROWS: &[Row] = &[
     PLAIN,
     Row {
-        scene: Scene {
+        setting: Setting {
             words: SERVE_ONE,
-            ..SCENE
+            ..SETTING
         },
         ..PLAIN
     },
@@ -100,22 +100,22 @@ const ROWS: &[Row] = &[
         ..PLAIN
     },
     Row {
-        scene: TWO_WORKERS,
+        setting: TWO_WORKERS,
         lanes: &[THREE, ONE, ONE],
         served: &[(3, 3), (1, 1), (0, 0)],
         ..PLAIN
     },
     Row {
-        scene: Scene {
+        setting: Setting {
             words: SERVE_SIXTEEN,
-            ..SCENE
+            ..SETTING
         },
         lanes: &[ONE; 16],
         served: &[(1, 1); 16],
         ..PLAIN
     },
     Row {
-        scene: TWO_WORKERS,
+        setting: TWO_WORKERS,
         lanes: &[
             THREE,
             Script {
@@ -132,7 +132,7 @@ const ROWS: &[Row] = &[
         ..PLAIN
     },
     Row {
-        scene: TWO_WORKERS,
+        setting: TWO_WORKERS,
         lanes: &[
             THREE,
             Script {
@@ -147,9 +147,9 @@ const ROWS: &[Row] = &[
     },
     Row {
         lanes: &[THREE],
-        scene: Scene {
+        setting: Setting {
             maps: Fails { first: 0, count: 1 },
-            ..SCENE
+            ..SETTING
         },
         status: Status::SinkFault,
         maps: "",
@@ -159,9 +159,9 @@ const ROWS: &[Row] = &[
     Row {
         feed: "demand g2 4\ncommit\nshow\n",
         lanes: &[THREE],
-        scene: Scene {
+        setting: Setting {
             maps: Fails { first: 1, count: 1 },
-            ..SCENE
+            ..SETTING
         },
         status: Status::SinkFault,
         served: &[(3, 3)],
@@ -169,9 +169,9 @@ const ROWS: &[Row] = &[
     },
     Row {
         feed: "demand g2 4\ncommit\nshow\n",
-        scene: Scene {
+        setting: Setting {
             lines: Fails { first: 0, count: 1 },
-            ..SCENE
+            ..SETTING
         },
         status: Status::SinkFault,
         maps: BOTH,
@@ -179,10 +179,10 @@ const ROWS: &[Row] = &[
     },
     Row {
         feed: "show\nshow\n",
-        scene: Scene {
+        setting: Setting {
             sizes: &[5],
             reads: Fails { first: 1, count: 1 },
-            ..SCENE
+            ..SETTING
         },
         status: Status::SourceFault,
         out: "show 0 placed 15 unplaced 1 full 2\n",
@@ -190,17 +190,20 @@ const ROWS: &[Row] = &[
     },
     Row {
         feed: "show\nshow\n",
-        scene: Scene {
+        setting: Setting {
             sizes: &[5, 1, 1],
             turns: 2,
-            ..SCENE
+            ..SETTING
         },
         status: Status::Spent,
         out: "show 0 placed 15 unplaced 1 full 2\n",
         ..PLAIN
     },
     Row {
-        scene: Scene { turns: 3, ..SCENE },
+        setting: Setting {
+            turns: 3,
+            ..SETTING
+        },
         lanes: &[FIVE],
         status: Status::Spent,
         served: &[(3, 3)],
@@ -262,7 +265,7 @@ fn came_so(came: &Came, row: &Row) -> bool {
 
 /// Whether a row's session comes out as it says.
 fn comes_so<R: Threads + Wait + Sync + AllocGlobal>(rt: &R, row: &Row) -> Result<bool, NoMemory> {
-    let came = session_of(rt, row.scene, row.feed.as_bytes(), row.lanes)?;
+    let came = session_of(rt, row.setting, row.feed.as_bytes(), row.lanes)?;
     Ok(came_so(&came, row))
 }
 
@@ -284,10 +287,10 @@ fn sessions(rt: HostRuntime) -> Result<(), Fail> {
 /// How many commits a long session makes, and the octets that each output has room for.
 const COMMITS: u64 = 7_000;
 
-const LONG: Scene = Scene {
+const LONG: Setting = Setting {
     turns: 1_000,
     room: 1 << 20,
-    ..SCENE
+    ..SETTING
 };
 
 /// Two commits: the second group asks for four units, and for seven again.

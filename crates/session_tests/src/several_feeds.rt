@@ -1,11 +1,12 @@
 //! `serve` over several feeds, in memory.
 use glb::Status;
 use no_memory::NoMemory;
+use std::alloc::Global;
 use std::sync::Wait;
 use std::test::Fail;
 use std::thread::Threads;
 use trial_runs::{
-    Came, EMPTY, Fails, FeedScript, NEVER, ONE, PLAIN as SCENE, REGION_MAP, Scene, session_of,
+    Came, EMPTY, Fails, FeedScript, NEVER, ONE, PLAIN as SETTING, REGION_MAP, Setting, session_of,
 };
 
 /// The words of a session with these further feeds.
@@ -59,7 +60,7 @@ const BY_SECOND: &str = "glb map 2\nplace g1 A 8\nplace g2 A 2\nplace g2 B 2\nfu
 const BY_BOTH: &str = "glb map 2\nplace g1 A 7\nplace g2 A 3\nplace g2 B 1\nfull g2 A A\nend\n";
 
 /// What both outputs get.
-type Outputs = (&'static str, &'static [&'static str]);
+type BothTexts = (&'static str, &'static [&'static str]);
 
 /// A session, and what may come of it: the status, and what both outputs get. The names under which its further feeds were
 /// opened are those that follow.
@@ -71,7 +72,7 @@ struct Row {
     lines: Fails,
     turns: u64,
     status: Status,
-    outputs: &'static [Outputs],
+    outputs: &'static [BothTexts],
     names: [&'static str; 3],
 }
 
@@ -211,7 +212,7 @@ fn are_joined(octets: &[u8], pieces: &[&str]) -> bool {
 }
 
 /// Whether both outputs got that.
-fn has_put(came: &Came, outputs: &Outputs) -> bool {
+fn has_put(came: &Came, outputs: &BothTexts) -> bool {
     came.text() == outputs.0.as_bytes() && are_joined(came.lent.maps.bytes(), outputs.1)
 }
 
@@ -231,7 +232,7 @@ fn are_named(came: &Came, names: &[&str; 3]) -> bool {
 }
 
 /// Whether both outputs got one of these.
-fn has_put_one(came: &Came, all: &[Outputs]) -> bool {
+fn has_put_one(came: &Came, all: &[BothTexts]) -> bool {
     for outputs in all {
         if has_put(came, outputs) {
             return true;
@@ -249,14 +250,14 @@ fn comes_right<R: Threads + Wait + Sync + AllocGlobal>(
     rt: &R,
     row: &Row,
 ) -> Result<bool, NoMemory> {
-    let scene = Scene {
+    let setting = Setting {
         words: row.words,
         more: row.more,
         lines: row.lines,
         turns: row.turns,
-        ..SCENE
+        ..SETTING
     };
-    let came = session_of(rt, scene, row.feed.as_bytes(), &[ONE])?;
+    let came = session_of(rt, setting, row.feed.as_bytes(), &[ONE])?;
     Ok(is_right(&came, row))
 }
 
@@ -291,5 +292,40 @@ fn first_wrong<R: Threads + Wait + Sync + AllocGlobal>(
 #[test]
 fn several_feeds(rt: HostRuntime) -> Result<(), Fail> {
     assert_eq!(rt; first_wrong(&rt, ROWS, 20)?, None);
+    Ok(())
+}
+
+/// How many changes a batch has at most.
+const MOST_CHANGES: u32 = 4_096;
+
+/// A session with a second feed, on which there is nothing, and turns for a long first one.
+const BESIDE_A_LARGE_BATCH: Setting = Setting {
+    words: SECOND,
+    more: &[EMPTY],
+    turns: 1_000,
+    ..SETTING
+};
+
+/// The feed of one batch of as many changes as there may be, each to the same demand.
+fn large_batch(alloc: Global) -> Result<Vec<u8>, NoMemory> {
+    let mut feed = Vec::new(alloc);
+    for _change in 0..MOST_CHANGES {
+        feed.extend_from_slice(b"demand g1 7\n")?;
+    }
+    feed.extend_from_slice(b"commit\n")?;
+    Ok(feed)
+}
+
+/// Whether that batch, which goes from a feed's reader to the mapper as a whole, is published.
+fn is_taken<R: Threads + Wait + Sync + AllocGlobal>(rt: &R) -> Result<bool, NoMemory> {
+    let feed = large_batch(rt.alloc())?;
+    let came = session_of(rt, BESIDE_A_LARGE_BATCH, feed.as_slice(), &[ONE])?;
+    let is_put = has_put(&came, &("1 published 1\n", &[REGION_MAP, BY_FIRST]));
+    Ok(is_put && came.status == Status::Ok)
+}
+
+#[test]
+fn the_largest_batch_goes_over_the_queue(rt: HostRuntime) -> Result<(), Fail> {
+    assert!(rt; is_taken(&rt)?);
     Ok(())
 }

@@ -7,7 +7,7 @@ use std::sync::Wait;
 use std::test::Fail;
 use std::thread::Threads;
 use trial_runs::{
-    Came, Fails, NO_TALKS, PLAIN as SCENE, REGION_MAP, Scene, StreamScript, session_of,
+    Came, Fails, NO_TALKS, PLAIN as SETTING, REGION_MAP, Setting, StreamScript, session_of,
 };
 
 /// The words of a session that takes conversations at a port of its own.
@@ -110,15 +110,15 @@ const TAKES: StreamScript = StreamScript {
     ..NO_TALKS
 };
 
-const OVER_SCENE: Scene = Scene {
+const OVER_SCENE: Setting = Setting {
     words: SERVE_OVER,
-    ..SCENE
+    ..SETTING
 };
 
-/// The scene, and what comes of it: the status, what both outputs get, where the streams were opened, and for each conversation that was closed how often the reply from the second pool was written to it, and nothing else.
+/// The setting, and what comes of it: the status, what both outputs get, where the streams were opened, and for each conversation that was closed how often the reply from the second pool was written to it, and nothing else.
 #[derive(Clone, Copy)]
 struct Row {
-    scene: Scene,
+    setting: Setting,
     status: Status,
     out: &'static str,
     maps: &'static str,
@@ -128,7 +128,7 @@ struct Row {
 
 /// No conversation comes.
 const PLAIN: Row = Row {
-    scene: OVER_SCENE,
+    setting: OVER_SCENE,
     status: Status::Ok,
     out: "",
     maps: REGION_MAP,
@@ -140,19 +140,19 @@ const ROWS: &[Row] = &[
     PLAIN,
     // without the option nothing is taken
     Row {
-        scene: Scene {
+        setting: Setting {
             stream: StreamScript {
                 talks: &[&[MESSAGE]],
                 ..TAKES
             },
-            ..SCENE
+            ..SETTING
         },
         is_open: false,
         ..PLAIN
     },
     // two messages in one piece, of which the beginning of a third is left, and one that is cut
     Row {
-        scene: Scene {
+        setting: Setting {
             stream: StreamScript {
                 talks: &[&[TWO_AND_MORE], &[FIRST_OCTET, FROM_SECOND, FROM_NAME]],
                 ..TAKES
@@ -164,7 +164,7 @@ const ROWS: &[Row] = &[
     },
     // two messages in two pieces
     Row {
-        scene: Scene {
+        setting: Setting {
             stream: StreamScript {
                 talks: &[&[MESSAGE, MESSAGE]],
                 ..TAKES
@@ -176,7 +176,7 @@ const ROWS: &[Row] = &[
     },
     // a length that is too great closes its conversation, and the next one is served
     Row {
-        scene: Scene {
+        setting: Setting {
             stream: StreamScript {
                 talks: &[&[TOO_LONG, MESSAGE], &[SILENT, MESSAGE]],
                 ..TAKES
@@ -188,7 +188,7 @@ const ROWS: &[Row] = &[
     },
     // a read that is quiet leaves the conversation open
     Row {
-        scene: Scene {
+        setting: Setting {
             stream: StreamScript {
                 talks: &[&[FIRST_OCTET, &[], FROM_SECOND, &[], FROM_NAME]],
                 ..TAKES
@@ -200,7 +200,7 @@ const ROWS: &[Row] = &[
     },
     // a failed read closes its conversation, and the lane goes on
     Row {
-        scene: Scene {
+        setting: Setting {
             stream: StreamScript {
                 talks: &[&[MESSAGE], &[MESSAGE]],
                 answers: Fails { first: 1, count: 1 },
@@ -212,7 +212,7 @@ const ROWS: &[Row] = &[
         ..PLAIN
     },
     Row {
-        scene: Scene {
+        setting: Setting {
             stream: StreamScript {
                 talks: &[&[MESSAGE]],
                 answers: Fails { first: 0, count: 8 },
@@ -224,7 +224,7 @@ const ROWS: &[Row] = &[
         ..PLAIN
     },
     Row {
-        scene: Scene {
+        setting: Setting {
             stream: StreamScript {
                 opens: Fails { first: 0, count: 1 },
                 talks: &[&[MESSAGE]],
@@ -238,7 +238,7 @@ const ROWS: &[Row] = &[
         ..PLAIN
     },
     Row {
-        scene: Scene {
+        setting: Setting {
             stream: StreamScript {
                 talks: &[&[MESSAGE], &[MESSAGE]],
                 looks: Fails { first: 1, count: 1 },
@@ -251,7 +251,7 @@ const ROWS: &[Row] = &[
         ..PLAIN
     },
     Row {
-        scene: Scene {
+        setting: Setting {
             stream: StreamScript {
                 talks: &[&[MESSAGE, MESSAGE], &[MESSAGE]],
                 ..TAKES
@@ -264,7 +264,7 @@ const ROWS: &[Row] = &[
         ..PLAIN
     },
     Row {
-        scene: Scene {
+        setting: Setting {
             words: SERVE_SIXTEEN,
             ..OVER_SCENE
         },
@@ -275,7 +275,7 @@ const ROWS: &[Row] = &[
         ..PLAIN
     },
     Row {
-        scene: Scene {
+        setting: Setting {
             words: SERVE_NOWHERE,
             ..OVER_SCENE
         },
@@ -286,7 +286,7 @@ const ROWS: &[Row] = &[
         ..PLAIN
     },
     Row {
-        scene: Scene {
+        setting: Setting {
             words: SERVE_FIFTEEN,
             ..OVER_SCENE
         },
@@ -329,7 +329,7 @@ fn came_so(came: &Came, row: &Row) -> bool {
 
 /// Whether a row's session comes out as it says.
 fn comes_so<R: Threads + Wait + Sync + AllocGlobal>(rt: &R, row: &Row) -> Result<bool, NoMemory> {
-    let came = session_of(rt, row.scene, b"", &[])?;
+    let came = session_of(rt, row.setting, b"", &[])?;
     Ok(came_so(&came, row))
 }
 

@@ -1,7 +1,7 @@
 //! The program over what it is lent in memory, and what came of it.
 ghost use Rattle.std.specs.Prelude.{◌≡◌, ◌≤◌, ◌^◌, IfOk, vec_len};
 
-use crate::devices::{Devices, Feeds, Outputs};
+use crate::devices::{Devices, Feeds, Sinks};
 use crate::lanes::{MemLane, Script, lanes_of};
 use crate::streams::{MemStreamLane, StreamScript, stream_of};
 use glb::{Lane, Status, StreamLane, glb};
@@ -82,7 +82,7 @@ pub fn lent_of<P: Port, Q: Streams, G: Gate, D: Door, M>(
         words,
         files,
         feeds: Feeds { first, more },
-        outputs: Outputs { out, maps },
+        outputs: Sinks { out, maps },
     } = devices;
     AllLent {
         words,

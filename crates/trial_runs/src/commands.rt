@@ -2,7 +2,7 @@
 ghost use Rattle.std.specs.Prelude.{◌≡◌, IfOk, vec_len};
 
 use crate::came::{Came, came_by};
-use crate::devices::{Devices, Outputs, devices_by, feeds_by, sink_of};
+use crate::devices::{Devices, Sinks, devices_by, feeds_by, sink_of};
 use crate::fails::{Fails, NEVER};
 use crate::files::{Held, shelf_of};
 use crate::streams::NO_TALKS;
@@ -17,10 +17,10 @@ use std::thread::Threads;
 pub const ROOM: usize = 2048;
 
 /// An output with room for so many octets, of which these puts fail, and none for maps.
-fn outputs_over(alloc: Global, puts: Fails, room: usize) -> Result<Outputs, NoMemory> {
+fn outputs_over(alloc: Global, puts: Fails, room: usize) -> Result<Sinks, NoMemory> {
     let out = sink_of(alloc, room, puts)?;
     let maps = sink_of(alloc, 0, NEVER)?;
-    Ok(Outputs { out, maps })
+    Ok(Sinks { out, maps })
 }
 
 /// What a command is lent over these files: nothing on the feeds, and these outputs.
@@ -28,7 +28,7 @@ fn devices_over(
     alloc: Global,
     words: &[&str],
     files: MemShelf,
-    outputs: Outputs,
+    outputs: Sinks,
 ) -> Result<Devices, NoMemory>
     ensures { IfOk result (λ d. vec_len d.feeds.more ≡ 3) }
 {

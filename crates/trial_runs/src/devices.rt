@@ -17,7 +17,7 @@ pub struct Feeds {
 
 /// The control text's output, and that of the maps.
 #[derive(Drop)]
-pub struct Outputs {
+pub struct Sinks {
     pub out: MemSink,
     pub maps: MemSink,
 }
@@ -28,7 +28,7 @@ pub struct Devices {
     pub words: Vec<String>,
     pub files: MemShelf,
     pub feeds: Feeds,
-    pub outputs: Outputs,
+    pub outputs: Sinks,
 }
 
 /// A feed of these octets, in pieces of these sizes, of which these reads fail, and further ones by these scripts.
@@ -57,7 +57,7 @@ pub(crate) fn devices_by(
     words: &[&str],
     files: MemShelf,
     feeds: Feeds,
-    outputs: Outputs,
+    outputs: Sinks,
 ) -> Result<Devices, NoMemory>
     ensures { IfOk result (λ d. vec_len d.feeds.more ≡ vec_len feeds.more) }
 {

@@ -14,12 +14,12 @@ mod texts;
 
 pub use came::{AllLent, Came, MemLent, are_joined, lent_of, run};
 pub use commands::{ROOM, Row, came_of, came_over, comes_so, comes_with, first_wrong};
-pub use devices::{Devices, Feeds, Outputs};
+pub use devices::{Devices, Feeds, Sinks};
 pub use fails::{Fails, NEVER};
 pub use feeds::{EMPTY, FeedScript};
 pub use files::{Held, shelf_of};
 pub use lanes::{MemLane, ONE, QUERY, QUIET, Script, queries};
-pub use sessions::{PLAIN, SERVE, SERVE_TWO, Scene, devices_of, session_of};
+pub use sessions::{PLAIN, SERVE, SERVE_TWO, Setting, devices_of, session_of};
 pub use streams::{MemStreamLane, NO_TALKS, StreamScript};
 pub use texts::{
     EIGHT_LEVELS, EMPTY_POOL, FLAT, GOOD_FLAT, GOOD_REGION, NO_DEFAULT, NO_LONGER_FULL, REGION,

@@ -2,7 +2,7 @@
 ghost use Rattle.std.specs.Prelude.{◌≡◌, IfOk, vec_len};
 
 use crate::came::{Came, came_by};
-use crate::devices::{Devices, Outputs, devices_by, feeds_by, sink_of};
+use crate::devices::{Devices, Sinks, devices_by, feeds_by, sink_of};
 use crate::fails::{Fails, NEVER};
 use crate::feeds::FeedScript;
 use crate::files::{Held, shelf_of};
@@ -30,7 +30,7 @@ pub const SERVE_TWO: &[&str] = &[
 /// The words of a session, the sizes of its feed's pieces, its further feeds, which loads, reads and puts fail, its lane for
 /// conversations, and the turns.
 #[derive(Clone, Copy)]
-pub struct Scene {
+pub struct Setting {
     pub words: &'static [&'static str],
     pub sizes: &'static [usize],
     pub more: &'static [FeedScript],
@@ -47,7 +47,7 @@ pub struct Scene {
 }
 
 /// One worker, and nothing fails.
-pub const PLAIN: Scene = Scene {
+pub const PLAIN: Setting = Setting {
     words: SERVE,
     sizes: &[],
     more: &[],
@@ -61,29 +61,29 @@ pub const PLAIN: Scene = Scene {
 };
 
 /// The outputs of a session.
-fn outputs_of(alloc: Global, scene: Scene) -> Result<Outputs, NoMemory> {
-    let out = sink_of(alloc, scene.room, scene.lines)?;
-    let maps = sink_of(alloc, scene.room, scene.maps)?;
-    Ok(Outputs { out, maps })
+fn outputs_of(alloc: Global, setting: Setting) -> Result<Sinks, NoMemory> {
+    let out = sink_of(alloc, setting.room, setting.lines)?;
+    let maps = sink_of(alloc, setting.room, setting.maps)?;
+    Ok(Sinks { out, maps })
 }
 
 /// What a session over the region is lent, with this feed.
-pub fn devices_of(alloc: Global, scene: Scene, feed: &[u8]) -> Result<Devices, NoMemory>
+pub fn devices_of(alloc: Global, setting: Setting, feed: &[u8]) -> Result<Devices, NoMemory>
     ensures { IfOk result (λ d. vec_len d.feeds.more ≡ 3) }
 {
-    let files = shelf_of(alloc, &[("t", Held::Topology(REGION))], scene.loads)?;
-    let feeds = feeds_by(alloc, feed, scene.sizes, scene.reads, scene.more)?;
-    let outputs = outputs_of(alloc, scene)?;
-    devices_by(alloc, scene.words, files, feeds, outputs)
+    let files = shelf_of(alloc, &[("t", Held::Topology(REGION))], setting.loads)?;
+    let feeds = feeds_by(alloc, feed, setting.sizes, setting.reads, setting.more)?;
+    let outputs = outputs_of(alloc, setting)?;
+    devices_by(alloc, setting.words, files, feeds, outputs)
 }
 
 /// A session over the region, with this feed and lanes by these scripts.
 pub fn session_of<R: Threads + Wait + Sync + AllocGlobal>(
     rt: &R,
-    scene: Scene,
+    setting: Setting,
     feed: &[u8],
     scripts: &[Script],
 ) -> Result<Came, NoMemory> {
-    let devices = devices_of(rt.alloc(), scene, feed)?;
-    came_by(rt, devices, scripts, scene.stream, scene.turns)
+    let devices = devices_of(rt.alloc(), setting, feed)?;
+    came_by(rt, devices, scripts, setting.stream, setting.turns)
 }

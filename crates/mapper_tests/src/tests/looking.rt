@@ -4,7 +4,7 @@ ghost use Rattle.std.specs.Prelude.{◌≡◌, ◌<◌, ◌^◌, None};
 use super::{opened, row_of, tells_of};
 use demand_feed::FeedEnd;
 use map_cell::{EmptyHistory, Naming, NoteRow, RowNotes};
-use mapper::{Mapper, Outputs};
+use mapper::{Mapper, Outputs, Told};
 use no_memory::NoMemory;
 use outside::{MemPace, MemSource, Notes, Put, Sink};
 use std::alloc::Global;
@@ -73,7 +73,33 @@ fn feed_of(alloc: Global) -> Result<MemSource, NoMemory> {
     MemSource::new(alloc, bytes, Vec::new(alloc), Vec::new(alloc))
 }
 
-/// Whether the notes of a feed come so.
+/// Whether the notes of a feed come so into this row, of whose first map it tells.
+fn comes_in_order<J: Naming, R: Wait>(
+    rt: &R,
+    alloc: Global,
+    mapper: &mut Mapper<J>,
+    row: &NoteRow<J>,
+    told: Told,
+) -> Result<bool, NoMemory>
+    requires { mapper.old.newest.serial < 2 ^ 63 }
+{
+    let mut feed = feed_of(alloc)?;
+    let mut pace = MemPace::new(alloc, 64)?;
+    let mut out = Looking::over(row);
+    let mut maps = Looking::over(row);
+    let mut to = Outputs {
+        out: &mut out,
+        maps: &mut maps,
+        pace: &mut pace,
+        told,
+    };
+    let end = mapper.run_feed(rt, &mut feed, &mut to, row, 1_000_000);
+    let told = to.told;
+    let came = (end, saw(&out, 3), saw(&maps, 3), tells_of(row, told, 3));
+    Ok(came == (FeedEnd::Ended, true, true, true))
+}
+
+/// The same, of a row that is made here.
 fn is_in_order<J: Naming, R: Wait>(
     rt: &R,
     alloc: Global,
@@ -81,21 +107,8 @@ fn is_in_order<J: Naming, R: Wait>(
 ) -> Result<bool, NoMemory>
     requires { mapper.old.newest.serial < 2 ^ 63 }
 {
-    let mut feed = feed_of(alloc)?;
-    let mut pace = MemPace::new(alloc, 64)?;
     let (row, told) = row_of(rt, alloc, mapper)?;
-    let mut out = Looking::over(&row);
-    let mut maps = Looking::over(&row);
-    let mut to = Outputs {
-        out: &mut out,
-        maps: &mut maps,
-        pace: &mut pace,
-        told,
-    };
-    let end = mapper.run_feed(rt, &mut feed, &mut to, &row, 1_000_000);
-    let told = to.told;
-    let came = (end, saw(&out, 3), saw(&maps, 3), tells_of(&row, told, 3));
-    Ok(came == (FeedEnd::Ended, true, true, true))
+    comes_in_order(rt, alloc, mapper, &row, told)
 }
 
 /// The same, of a mapper of the example.
