@@ -182,17 +182,12 @@ fn drive_over<
     history: EmptyHistory,
     topology: Topology,
     ends: &mut Ends,
-    driven: Driven<'_, '_, '_, P, G, D, M>,
+    driven: &mut Driven<'_, '_, '_, P, G, D, M>,
 ) -> Option<DriveEnd>
     requires book { history ≡ J.book }
-    requires few { (driven.viewers ≤ 16) × (driven.viewers ≤ length driven.lanes.now) }
+    requires few { (driven.old.viewers ≤ 16) × (driven.old.viewers ≤ length driven.old.lanes.now) }
 {
-    let Driven {
-        viewers,
-        lanes,
-        stream,
-        pace,
-    } = driven;
+    let viewers = driven.viewers;
     let mut door = PlainDoor::new();
     let mut steps = Steps::<Proposals>::new();
     match Mapper::<J>::open(rt, alloc, history, topology, viewers, &mut door, &mut steps) {
@@ -200,6 +195,7 @@ fn drive_over<
         Ok((mapper, seats)) => {
             let Ends { feed, out, maps } = ends;
             let mut none: [MemSource; 0] = [];
+            let lanes = &mut *driven.lanes;
             let count = lanes.len();
             let (all, _behind) = lanes.split_at_mut(count);
             let crew = Crew {
@@ -213,10 +209,10 @@ fn drive_over<
                 out,
                 maps,
                 lanes: all,
-                pace,
+                pace: driven.pace,
                 turns: 100,
             };
-            drive(rt, alloc, crew, &mut lent, stream).ok()
+            drive(rt, alloc, crew, &mut lent, driven.stream).ok()
         }
     }
 }
@@ -227,9 +223,9 @@ fn drive_lines<P: Port + Send, G: Gate + Send, D: Door + Send, M: Pace, R: Threa
     alloc: Global,
     topology: Topology,
     script: Script,
-    driven: Driven<'_, '_, '_, P, G, D, M>,
+    driven: &mut Driven<'_, '_, '_, P, G, D, M>,
 ) -> Option<DriveEnd>
-    requires few { (driven.viewers ≤ 16) × (driven.viewers ≤ length driven.lanes.now) }
+    requires few { (driven.old.viewers ≤ 16) × (driven.old.viewers ≤ length driven.old.lanes.now) }
 {
     match ends_of(alloc, script.lines) {
         None => None,
@@ -253,9 +249,9 @@ fn drive_example<P: Port + Send, G: Gate + Send, D: Door + Send, M: Pace, R: Thr
     rt: &R,
     alloc: Global,
     script: Script,
-    driven: Driven<'_, '_, '_, P, G, D, M>,
+    driven: &mut Driven<'_, '_, '_, P, G, D, M>,
 ) -> Option<DriveEnd>
-    requires few { (driven.viewers ≤ 16) × (driven.viewers ≤ length driven.lanes.now) }
+    requires few { (driven.old.viewers ≤ 16) × (driven.old.viewers ≤ length driven.old.lanes.now) }
 {
     match read_topology(alloc, EXAMPLE_TREE.as_bytes()) {
         Err(_) => None,
@@ -293,13 +289,18 @@ fn drive_one<R: Threads + Wait + Sync>(
     let mut lanes = [lane];
     let mut stream = no_stream(alloc)?;
     let mut pace = pace;
-    let driven = Driven {
+    let mut driven = Driven {
         viewers: 1,
         lanes: &mut lanes,
         stream: &mut stream,
         pace: &mut pace,
     };
-    match drive_example::<MemPort, MemGate, MemDoor, MemPace, R>(rt, alloc, ONE_BATCH, driven) {
+    match drive_example::<MemPort, MemGate, MemDoor, MemPace, R>(
+        rt,
+        alloc,
+        ONE_BATCH,
+        &mut driven,
+    ) {
         None => None,
         Some(ended) => {
             let lane = &lanes[0];
@@ -388,13 +389,18 @@ fn drive_some<R: Threads + Wait + Sync>(
     if lanes.len() != 16 {
         return None;
     }
-    let driven = Driven {
+    let mut driven = Driven {
         viewers: count,
         lanes: &mut *lanes,
         stream: &mut stream,
         pace: &mut pace,
     };
-    match drive_example::<MemPort, MemGate, MemDoor, MemPace, R>(rt, alloc, TWO_BATCHES, driven) {
+    match drive_example::<MemPort, MemGate, MemDoor, MemPace, R>(
+        rt,
+        alloc,
+        TWO_BATCHES,
+        &mut driven,
+    ) {
         None => None,
         Some(ended) => Some((ended, taken_by(lanes))),
     }
