@@ -5,7 +5,7 @@ ghost use Rattle.std.specs.Prelude.{◌≡◌, ◌^◌, length};
 ghost use Rattle.std.specs.Process.{exit_status};
 ghost use Rattle.drive.specs.Told.{IsSameLent};
 ghost use Rattle.glb.specs.Outcome.{code_of};
-ghost use Rattle.glb.specs.Told.{told_over};
+ghost use Rattle.glb.specs.Told.{all_told, told_over};
 ghost use Rattle.glb_program.specs.Fresh.{new_surroundings};
 ghost use Rattle.glb_program.specs.Ran.{Ran};
 
@@ -16,7 +16,7 @@ use edges::{
     FileShelf, FlagPace, NamedStream, SharedTcp, SharedUdp, StandardStream, StopFlag, StreamSink,
     StreamSource,
 };
-use glb::{MOST_TURNS, Status, StreamLane, glb};
+use glb::{Lane, MOST_TURNS, Status, StreamLane, glb};
 use map_cell::Door;
 use network::{Network, lanes_of};
 use no_memory::NoMemory;
@@ -95,6 +95,60 @@ fn run_words<
     }
 }
 
+/// What the program reads its feeds from, and its outputs.
+#[derive(Drop)]
+struct Ends<S, N, K> {
+    feed: S,
+    more: [N; 3],
+    out: K,
+    maps: K,
+}
+
+/// The same over what is made for it.
+fn run_over<
+    R: Threads + Wait + Sync + Env + AllocGlobal,
+    F: Shelf + Drop,
+    S: Source + Send + Drop,
+    N: NamedSource + Send + Drop,
+    K: Sink + Drop,
+    P: Port + Send + Drop,
+    Q: Streams + Send + Drop,
+    G: Gate + Send + Drop,
+    D: Door + Send + Drop,
+    M: Pace + Drop,
+>(
+    rt: &R,
+    files: F,
+    ends: Ends<S, N, K>,
+    lanes: Vec<Lane<P, G, D>>,
+    stream: StreamLane<Q, G, D>,
+    pace: M,
+) -> Status
+    requires fresh { (all_told F.told S.told N.told K.told M.told
+        files ends.feed ends.more ends.out ends.maps lanes.items stream pace) ≡ new_surroundings }
+{
+    let mut files = files;
+    let Ends {
+        mut feed,
+        mut more,
+        mut out,
+        mut maps,
+    } = ends;
+    let mut lanes = lanes;
+    let mut stream = stream;
+    let mut pace = pace;
+    let mut lent = Lent {
+        feed: &mut feed,
+        more: &mut more,
+        out: &mut out,
+        maps: &mut maps,
+        lanes: lanes.as_mut_slice(),
+        pace: &mut pace,
+        turns: MOST_TURNS,
+    };
+    run_words(rt, &mut files, &mut lent, &mut stream)
+}
+
 /// How large the stack is that the program has, in octets, whatever the limits are under which it is started.
 const STACK: usize = 8 << 20;
 
@@ -102,37 +156,23 @@ const STACK: usize = 8 << 20;
 fn main(rt: HostRuntime) -> ExitCode {
     let host = &rt;
     let work = move || -> Status {
-        let mut files = FileShelf::new(host);
-        let mut feed = StreamSource::new(host.stdin());
-        let mut more = [
-            NamedStream::new(host),
-            NamedStream::new(host),
-            NamedStream::new(host),
-        ];
-        let mut out = StreamSink::new(StandardStream::Output(host.stdout()));
-        let mut maps = StreamSink::new(StandardStream::Error(host.stderr()));
+        let files = FileShelf::new(host);
+        let ends = Ends {
+            feed: StreamSource::new(host.stdin()),
+            more: [
+                NamedStream::new(host),
+                NamedStream::new(host),
+                NamedStream::new(host),
+            ],
+            out: StreamSink::new(StandardStream::Output(host.stdout())),
+            maps: StreamSink::new(StandardStream::Error(host.stderr())),
+        };
         let udp = SharedUdp::new();
         let tcp = SharedTcp::new();
         let flag = StopFlag::new();
-        let mut pace = FlagPace::new(&flag);
+        let pace = FlagPace::new(&flag);
         match lanes_of(host.alloc(), host, &udp, &tcp, &flag) {
-            Ok(
-                Network {
-                    mut lanes,
-                    mut stream,
-                },
-            ) => {
-                let mut lent = Lent {
-                    feed: &mut feed,
-                    more: &mut more,
-                    out: &mut out,
-                    maps: &mut maps,
-                    lanes: lanes.as_mut_slice(),
-                    pace: &mut pace,
-                    turns: MOST_TURNS,
-                };
-                run_words(host, &mut files, &mut lent, &mut stream)
-            }
+            Ok(Network { lanes, stream }) => run_over(host, files, ends, lanes, stream, pace),
             Err(NoMemory) => Status::NoMemory,
         }
     };
