@@ -1,17 +1,15 @@
 //! `glb`, the mapping system of a content delivery network.
 #![tactic(auto)]
 
-ghost use Rattle.std.specs.Prelude.{◌≡◌, ◌^◌, length};
+ghost use Rattle.std.specs.Prelude.{◌≡◌, length};
 ghost use Rattle.std.specs.Process.{exit_status};
-ghost use Rattle.drive.specs.Told.{IsSameLent};
 ghost use Rattle.glb.specs.Outcome.{code_of};
-ghost use Rattle.glb.specs.Told.{all_told, told_over};
+ghost use Rattle.glb.specs.Told.{all_told};
 ghost use Rattle.glb_program.specs.Fresh.{new_surroundings};
 ghost use Rattle.glb_program.specs.Ran.{Ran};
 
 mod network;
 
-use drive::Lent;
 use edges::{
     FileShelf, FlagPace, NamedStream, SharedTcp, SharedUdp, StandardStream, StopFlag, StreamSink,
     StreamSource,
@@ -44,8 +42,8 @@ fn exit_code(status: Status) -> ExitCode
     ExitCode::from(status.code())
 }
 
-/// All of the program behind its words, which it reads: over these files, and the feeds, outputs, lanes and pace that it is
-/// lent.
+/// All of the program behind its words, which it reads: over these files, this feed, these sources of further feeds, these
+/// outputs and these lanes.
 fn run_words<
     R: Threads + Wait + Sync + Env + AllocGlobal,
     F: Shelf,
@@ -60,20 +58,26 @@ fn run_words<
 >(
     rt: &R,
     files: &mut F,
-    lent: &mut Lent<'_, '_, '_, '_, '_, '_, S, N, K, P, G, D, M>,
+    feed: &mut S,
+    more: &mut [N],
+    out: &mut K,
+    maps: &mut K,
+    lanes: &mut [Lane<P, G, D>],
     stream: &mut StreamLane<Q, G, D>,
+    pace: &mut M,
 ) -> Status
-    requires feeds { length lent.old.more.now ≡ 3 }
-    requires lanes { length lent.old.lanes.now ≡ 16 }
-    requires turns { lent.old.turns ≡ 2 ^ 48 }
+    requires feeds { length more.old ≡ 3 }
+    requires lanes { length lanes.old ≡ 16 }
     // All of it is new: so each count of faults counts from 0 on, and what is told is all that was ever asked.
-    requires fresh { (told_over F.told S.told N.told K.told M.told files.old lent.old stream.old)
+    requires fresh { (all_told F.told S.told N.told K.told M.told
+        files.old feed.old more.old out.old maps.old lanes.old stream.old pace.old)
         ≡ new_surroundings }
-    ensures keeps { IsSameLent lent.old lent.new }
     // Unless the words could not be read for want of memory, where nothing is touched, it is a run of what some words ask for.
-    ensures ran { Ran
-        (told_over F.told S.told N.told K.told M.told files.old lent.old stream.old)
-        (told_over F.told S.told N.told K.told M.told files.new lent.new stream.new)
+    ensures { Ran
+        (all_told F.told S.told N.told K.told M.told
+        files.old feed.old more.old out.old maps.old lanes.old stream.old pace.old)
+        (all_told F.told S.told N.told K.told M.told
+        files.new feed.new more.new out.new maps.new lanes.new stream.new pace.new)
         result }
 {
     match read_args(rt) {
@@ -82,71 +86,17 @@ fn run_words<
             rt.alloc(),
             words.as_slice(),
             files,
-            lent.feed,
-            lent.more,
-            lent.out,
-            lent.maps,
-            lent.lanes,
+            feed,
+            more,
+            out,
+            maps,
+            lanes,
             stream,
-            lent.pace,
-            lent.turns,
+            pace,
+            MOST_TURNS,
         ),
         Err(NoMemory) => Status::NoMemory,
     }
-}
-
-/// What the program reads its feeds from, and its outputs.
-#[derive(Drop)]
-struct Ends<S, N, K> {
-    feed: S,
-    more: [N; 3],
-    out: K,
-    maps: K,
-}
-
-/// The same over what is made for it.
-fn run_over<
-    R: Threads + Wait + Sync + Env + AllocGlobal,
-    F: Shelf + Drop,
-    S: Source + Send + Drop,
-    N: NamedSource + Send + Drop,
-    K: Sink + Drop,
-    P: Port + Send + Drop,
-    Q: Streams + Send + Drop,
-    G: Gate + Send + Drop,
-    D: Door + Send + Drop,
-    M: Pace + Drop,
->(
-    rt: &R,
-    files: F,
-    ends: Ends<S, N, K>,
-    lanes: Vec<Lane<P, G, D>>,
-    stream: StreamLane<Q, G, D>,
-    pace: M,
-) -> Status
-    requires fresh { (all_told F.told S.told N.told K.told M.told
-        files ends.feed ends.more ends.out ends.maps lanes.items stream pace) ≡ new_surroundings }
-{
-    let mut files = files;
-    let Ends {
-        mut feed,
-        mut more,
-        mut out,
-        mut maps,
-    } = ends;
-    let mut lanes = lanes;
-    let mut stream = stream;
-    let mut pace = pace;
-    let mut lent = Lent {
-        feed: &mut feed,
-        more: &mut more,
-        out: &mut out,
-        maps: &mut maps,
-        lanes: lanes.as_mut_slice(),
-        pace: &mut pace,
-        turns: MOST_TURNS,
-    };
-    run_words(rt, &mut files, &mut lent, &mut stream)
 }
 
 /// How large the stack is that the program has, in octets, whatever the limits are under which it is started.
@@ -156,23 +106,36 @@ const STACK: usize = 8 << 20;
 fn main(rt: HostRuntime) -> ExitCode {
     let host = &rt;
     let work = move || -> Status {
-        let files = FileShelf::new(host);
-        let ends = Ends {
-            feed: StreamSource::new(host.stdin()),
-            more: [
-                NamedStream::new(host),
-                NamedStream::new(host),
-                NamedStream::new(host),
-            ],
-            out: StreamSink::new(StandardStream::Output(host.stdout())),
-            maps: StreamSink::new(StandardStream::Error(host.stderr())),
-        };
+        let mut files = FileShelf::new(host);
+        let mut feed = StreamSource::new(host.stdin());
+        let mut more = [
+            NamedStream::new(host),
+            NamedStream::new(host),
+            NamedStream::new(host),
+        ];
+        let mut out = StreamSink::new(StandardStream::Output(host.stdout()));
+        let mut maps = StreamSink::new(StandardStream::Error(host.stderr()));
         let udp = SharedUdp::new();
         let tcp = SharedTcp::new();
         let flag = StopFlag::new();
-        let pace = FlagPace::new(&flag);
+        let mut pace = FlagPace::new(&flag);
         match lanes_of(host.alloc(), host, &udp, &tcp, &flag) {
-            Ok(Network { lanes, stream }) => run_over(host, files, ends, lanes, stream, pace),
+            Ok(
+                Network {
+                    mut lanes,
+                    mut stream,
+                },
+            ) => run_words(
+                host,
+                &mut files,
+                &mut feed,
+                &mut more,
+                &mut out,
+                &mut maps,
+                lanes.as_mut_slice(),
+                &mut stream,
+                &mut pace,
+            ),
             Err(NoMemory) => Status::NoMemory,
         }
     };
