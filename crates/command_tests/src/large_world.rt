@@ -82,11 +82,17 @@ fn file_of(alloc: Global, name: &'static str, octets: &[u8]) -> Result<File, NoM
 }
 
 /// The files of that world, with this map.
-fn shelf_over(alloc: Global, topology: &[u8], map: &[u8]) -> Result<MemShelf, NoMemory> {
+fn files_of(alloc: Global, topology: &[u8], map: &[u8]) -> Result<Vec<File>, NoMemory> {
     let mut files = Vec::new(alloc);
     files.push(file_of(alloc, "t", topology)?)?;
     files.push(file_of(alloc, "m", map)?)?;
     files.push(file_of(alloc, "c", CHANGES)?)?;
+    Ok(files)
+}
+
+/// The shelf with these files, which never fails.
+fn shelf_over(alloc: Global, topology: &[u8], map: &[u8]) -> Result<MemShelf, NoMemory> {
+    let files = files_of(alloc, topology, map)?;
     MemShelf::new(alloc, files, 8, Vec::new(alloc))
 }
 
@@ -110,34 +116,50 @@ fn is_map(came: &Came) -> bool {
         && text.ends_with(b"\nend\n")
 }
 
-/// The first command that comes out otherwise over a world of thousands: one that maps it, checks the map, or repairs it.
-fn otherwise<R: Threads + Wait + Sync + AllocGlobal>(
+/// Whether a map of that world is good by `check`.
+fn is_checked<R: Threads + Wait + Sync + AllocGlobal>(
     rt: &R,
-) -> Result<Option<&'static str>, NoMemory> {
+    topology: &[u8],
+    map: &[u8],
+) -> Result<bool, NoMemory> {
+    let came = over(rt, &["glb", "check", "t", "m"], topology, map)?;
+    Ok(came.is(Status::Ok, b"good\n", 2))
+}
+
+/// Whether another map comes of a repair of it.
+fn is_repaired<R: Threads + Wait + Sync + AllocGlobal>(
+    rt: &R,
+    topology: &[u8],
+    map: &[u8],
+) -> Result<bool, NoMemory> {
+    let came = over(rt, &["glb", "repair", "t", "m", "c"], topology, map)?;
+    Ok(is_map(&came) && came.text() != map)
+}
+
+/// Whether a map of that world is whole, good, and can be repaired.
+fn fits<R: Threads + Wait + Sync + AllocGlobal>(
+    rt: &R,
+    topology: &[u8],
+    came: &Came,
+) -> Result<bool, NoMemory> {
+    if !is_map(came) {
+        return Ok(false);
+    }
+    if !is_checked(rt, topology, came.text())? {
+        return Ok(false);
+    }
+    is_repaired(rt, topology, came.text())
+}
+
+/// Whether each command does what it should over a world of thousands.
+fn all_do<R: Threads + Wait + Sync + AllocGlobal>(rt: &R) -> Result<bool, NoMemory> {
     let (topology, _) = make(rt.alloc(), GROUPS)?;
     let mapped = over(rt, &["glb", "map", "t"], topology.as_slice(), b"")?;
-    if !is_map(&mapped) {
-        return Ok(Some("map"));
-    }
-    let checked = over(
-        rt,
-        &["glb", "check", "t", "m"],
-        topology.as_slice(),
-        mapped.text(),
-    )?;
-    if !(checked.status == Status::Ok && checked.text() == b"good\n".as_slice()) {
-        return Ok(Some("check"));
-    }
-    let words = ["glb", "repair", "t", "m", "c"];
-    let repaired = over(rt, &words, topology.as_slice(), mapped.text())?;
-    if !(is_map(&repaired) && repaired.text() != mapped.text()) {
-        return Ok(Some("repair"));
-    }
-    Ok(None)
+    fits(rt, topology.as_slice(), &mapped)
 }
 
 #[test]
 fn commands_over_thousands(rt: HostRuntime) -> Result<(), Fail> {
-    assert_eq!(rt; otherwise(&rt)?, None);
+    assert!(rt; all_do(&rt)?);
     Ok(())
 }
