@@ -1,5 +1,7 @@
 //! Worlds of thousands: `large`, the same at each run, and over an output that fails at its third line; and each command over the
 //! files of such a world.
+ghost use Rattle.std.specs.Prelude.{◌≤◌, length};
+
 use big_world::make;
 use glb::Status;
 use no_memory::NoMemory;
@@ -77,7 +79,9 @@ const LARGE_ROOM: usize = 1 << 20;
 const CHANGES: &[u8] = b"demand g0 1\ncapacity r0-0 0\n";
 
 /// A file of these octets.
-fn file_of(alloc: Global, name: &'static str, octets: &[u8]) -> Result<File, NoMemory> {
+fn file_of(alloc: Global, name: &'static str, octets: &[u8]) -> Result<File, NoMemory>
+    requires { length name.now ≤ 255 }
+{
     Ok(File::new(name, Vec::from_slice(alloc, octets)?))
 }
 
