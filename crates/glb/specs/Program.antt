@@ -99,7 +99,7 @@ IsGoodRun turns (Some (large groups)) before after = IsSummedRun groups before a
 
 -- what is promised of a run of the whole program, whose words ask for this task
 pub record IsPromised (turns : ℕ) (task : Option Task) (before after : Surroundings) (result : Status) : Type 0 where
-  -- What it does: a command that says one text puts it on the output, and touches nothing else but the files; `serve` publishes a history of good maps, and its lanes answer from it; `large` puts the summary of a run, line by line, and ends with status 0, with a fault of the output, or with want of memory. What the files say is what the octets say that were loaded; where files or feed don't tell them, there are octets for which that is so.
+  -- What it does: a command that says one text puts it on the output, and touches nothing else but the files; `serve` publishes a history of good maps, and its lanes answer from it, or, where the map cell failed one, from good maps that `IsServedLog` of drive names; `large` puts the summary of a run, line by line, and ends with status 0, with a fault of the output, or with want of memory. What the files say is what the octets say that were loaded; where files or feed don't tell them, there are octets for which that is so.
   pub run : IsProgramRun turns task before after result
   -- The files of the words are loaded in their order, once each, and each only where all before it say something,
   pub noted : BothTell before.files.past after.files.past (AreLoadsOf (loads_of task))
