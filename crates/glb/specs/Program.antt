@@ -81,7 +81,7 @@ AreQuiet (Some (say ask)) before after = (Rose before.files.faults after.files.f
 AreQuiet (Some (serve ask)) before after = IsServeQuiet ask before after
 AreQuiet (Some (large groups)) before after = Rose before.lent.out.faults after.lent.out.faults → ⊥
 
--- The answers that are left then: status 0 or want of memory; of `serve` also that turns were spent, where they were, and that a door showed a serial that was not published, where one did.
+-- The answers that are left then: status 0 or want of memory; of `serve` also that turns were spent, where they were, and a fault of the cell, where a door has ever shown or learned a serial that was not published.
 abbrev pub IsLeft : ℕ → Option Task → Surroundings → Surroundings → Status → Type 0
 IsLeft turns None before after result = ⊥
 IsLeft turns (Some (say ask)) before after result = (result ≡ status.Ok) ⊎ (result ≡ status.NoMemory)
@@ -109,5 +109,5 @@ pub record IsPromised (turns : ℕ) (task : Option Task) (before after : Surroun
   pub causes : AreCauses turns task before after result
   -- Status 0 says, but of `large`, that a load of this run gave octets which say a topology; of `check`, `answer` and `repair` also that one gave a map that is good for it, and of `repair` that one gave changes; and that the output got, in one put, `good`, or of `map` the text of a map that is good for the topology and group-best, mapped from scratch, or of `places` how many units stand at each place by such a map, or of `answer` the reply of the map, or of `repair` the text of a map that is good for the changed numbers and keeps the rest. Of `serve` it says that the maps hold the texts of a history of good maps, the first one mapped from scratch, and nothing else, and that each of the first lanes, and that for conversations where it is asked for, answered from that history until its port's or its streams' end or its gate's stop. Of `large` it says that the output got the ten lines of the summary of a run.
   pub good : result ≡ status.Ok → IsGoodRun turns task before after
-  -- Where the files are told to hold a topology, for `check`, `answer` and `repair` a map that is good, and for `repair` changes, and no count of faults rises, there is no other answer but status 0 and want of memory; of `serve` also that turns were spent, where they were, and that a door showed a serial that was not published, where one did. For `large` nothing is asked of the files.
+  -- Where the files are told to hold a topology, for `check`, `answer` and `repair` a map that is good, and for `repair` changes, and no count of faults rises, there is no other answer but status 0 and want of memory; of `serve` also that turns were spent, where they were, and a fault of the cell, where a door has ever shown or learned a serial that was not published. For `large` nothing is asked of the files.
   pub complete : IsSound task before.files.past → AreQuiet task before after → IsLeft turns task before after result
