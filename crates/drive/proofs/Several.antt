@@ -342,26 +342,6 @@ fault_at items gs end start stop w (inl first) is = go (cases_lt k.0 (length gs)
     go (inl l) = (k.0, l, fault_last (sent_at gs k.0) (w.last k.0 l) (sym (ap has_fault (w.whole k.0 l)) ∙ k.1))
     go (inr past) = absurd (true≢false (sym k.1 ∙ ap has_fault (w.others k.0 past)))
 
--- where it did not, and no put failed, none of them has
-pub none_at : (items : List Item) (gs : List FeederState) (end : FeedEnd) (start stop : Scene) → AreWhole items gs → HaveEnded end items start stop → end ≢ ends.SourceFault → end ≢ ends.SinkFault → (k : ℕ) → ¬ EndsWith (sent_at gs k) ends.SourceFault
-none_at items gs end start stop w (inr sink) is put k e = absurd (put sink.0)
-none_at items gs end start stop w (inl first) is put k e = go (cases_lt k (length gs))
-  where
-    has : has_fault (sent_at gs k) ≡ true
-    has = ap has_fault e.1 ∙ fault_of e.0
-
-    none : has_one is_source_fault items ≡ false
-    none = no_fault items (λ same. is (first.0 ∙ same))
-
-    past_is : (gs : List FeederState) (k : ℕ) → length gs ≤ k → sent_at gs k ≡ []
-    past_is [] k l = refl
-    past_is (g ∷ gs) zero l = absurd (omega (arith, l))
-    past_is (g ∷ gs) (suc k) l = past_is gs k (omega (arith, l))
-
-    go : (k < length gs) ⊎ (length gs ≤ k) → ⊥
-    go (inl l) = true≢false (sym (any_in k items (ap has_fault (w.whole k l) ∙ has)) ∙ none)
-    go (inr past) = true≢false (sym has ∙ ap has_fault (past_is gs k past))
-
 -- the first feed and further ones, each with its feeder
 module _ {T : Type 0} (t : Plan) (turns : ℕ) (told : T → DeviceState Fed) (groups nodes : ℕ) (queue : TableId) (a b : DeviceState Fed) (f g : FeederState) (xs ys : List T) (fs gs : List FeederState) (taken : List Item)
     (first : IsRead t turns a b f g) (first_is : f ≡ fresh_feeder queue 0) (read : AllRan (Reads t turns told) xs ys fs gs) (fresh : fs ≡ map (fresh_feeder queue) (range_with_len 1 (length xs)))
@@ -452,11 +432,6 @@ several {T = T} t p turns told groups nodes a b f g xs ys fs gs opened given now
 pub some_told : {T : Type 0} (tell : T → DeviceState Fed) (xs : List T) → xs ≢ [] → map tell xs ≢ []
 some_told tell [] some e = some refl
 some_told tell (x ∷ xs) some e = cc
-
--- what is left alone
-pub all_same : (xs : List (DeviceState Fed)) → NoneFell xs xs
-all_same [] = refl
-all_same (x ∷ xs) = (omega arith, all_same xs)
 
 pub no_more : {T : Type 0} (xs : List T) → length xs ≡ 0 → xs ≡ []
 no_more [] e = refl

@@ -147,12 +147,6 @@ pub named_on : {N : Type 0} (f : N → DeviceState Fed) (name : List ℕ) (names
 named_on f name names r xs a b c d is one h k =
     rw (is, map-append f a b, map-append f c d) (named_more name names r (map f a) (map f c) (map f b) (map f d) (length-map a f ∙ one) h k)
 
--- the first feed did not open
-pub named_failed : {N : Type 0} (f : N → DeviceState Fed) (name : List ℕ) (names : List (List ℕ)) (xs a b c : List N) → xs ≡ a ++ b
-    → HasNamed (name ∷ []) opening.Failed (map f a) (map f c) → HasNamed (name ∷ names) opening.Failed (map f xs) (map f (c ++ b))
-named_failed f name names xs a b c is (k, lt, are) =
-    rw (is, map-append f a b, map-append f c b) (k, omega (arith, lt), named_past name names k (map f a) (map f c) (map f b) lt are)
-
 -- where no name is given, none of a list is among the first
 pub none_named : {N : Type 0} (names : List (List ℕ)) (front : List N) → length front ≡ length names → names ≡ [] → front ≡ []
 none_named names [] count none = refl
