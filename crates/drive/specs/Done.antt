@@ -18,7 +18,7 @@ use Rattle.lane_model.specs.Turns.{Turn, IsFated, IsTold, entries_of, failures, 
 use Rattle.lane_model.specs.Calls.{IsEnd, IsGateRun}
 use Rattle.drive.specs.Closing.{shut}
 
--- what a lane tells at one moment: its port, which is one for datagrams or streams, and its gate, where they tell, both counts of faults, its door's numbers, which are the places and the looks that it was asked for, the greatest serial, and its faults, and its worker's notes: those that it was given, each behind so many None answers
+-- what a lane tells at one moment: its port, which is one for datagrams or streams, and its gate, where they tell, both counts of faults, its door's numbers, which are the places and the looks that it was asked for, the greatest serial, and its faults, and its worker's notes, which the program keeps, anew in each run: those that it was given, each behind so many None answers
 pub record ServerTold (T : Type 0) : Type 0 where
   pub port : Option T
   pub port_faults : ℕ
@@ -74,7 +74,7 @@ pub record IsOverPast {T : Type 0} (h over : List Version) (log : List Turn) (en
   pub newest_is : newest + 1 ≡ length h
   pub ended_is : ended ≡ Above last newest
 
--- The turns of lane w of a drive, whose worker knew the first version alone: that they are a lane run; what was told; that the notes that its worker was given are those of the first versions, in their order, each once; that what its gate was shown last is no less than what was known by then; that its door was asked for no place, and for one look for each datagram that isn't silent, and one more; that its port's count rose by at least as many as its calls failed, and stands where none did; that a datagram was passed over just where it has no reply, and one whose look was refused has one, which it missed; that the whole history was learned ahead of the closing look; and over which history it stands.
+-- The turns of lane w of a drive, whose worker knew the first version alone: that they are a lane run; what was told; that the notes that its worker was given are those of the first versions, in their order, each once; that `shown` is no less than what was known by then, which is what its gate was shown last where the gate stopped it (`IsGateRun`); that its door was asked for no place, and for one look for each datagram that isn't silent, and one more; that its port's count rose by at least as many as its calls failed, and stands where none did; that a datagram was passed over just where it has no reply, and one whose look was refused has one, which it missed; that behind the closing look its door's greatest serial is no less than the newest of the history; and over which history it stands.
 pub record IsServedLog {T : Type 0} (a : Answers Version) (first : Version) (rest : List Version) (w : ℕ) (log : List Turn) (served ended : Ended) (shown : ℕ) (before after : ServerTold T) : Type 0 where
   pub over : List Version
   pub run : IsLaneRun a over w 0 0 (entries_of a.way log) (tries_of log)

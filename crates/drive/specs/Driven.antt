@@ -39,7 +39,7 @@ AreDone turns first rest w [] before after = after ≡ before
 AreDone turns first rest w (e ∷ ends) (b ∷ before) (c ∷ after) = IsDone turns first rest w b c e × AreDone turns first rest (w + 1) ends before after
 AreDone turns first rest w (e ∷ ends) _ _ = ⊥
 
--- A drive from a first version on: the run of its feed, or of all feeds together, whose versions go on from the first one, and the lanes over that history, the one for conversations behind the others.
+-- A drive from a first version on: the run of its feed, or of all feeds together, whose versions go on from the first one, and the lanes, over that history but where the map cell failed one (`IsServedLog`), the one for conversations behind the others.
 pub record IsDriven (turns : ℕ) (first : Version) (end : FeedEnd) (ends : List Ended) (stream_end : Option Ended) (before after : LentTold) : Type 0 where
   pub rest : List Version
   pub newest : Version

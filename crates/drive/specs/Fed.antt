@@ -25,7 +25,7 @@ pub record IsSame {J S K M : Type 0} (a b : FeedLoan J S K M) : Type 0 where
 abbrev pub feed_scene : {J S K M : Type 0} → (K → DeviceState Written) → (M → DeviceState (List PaceCall)) → FeedLoan J S K M → Scene
 feed_scene told paced a = scene a.mapper.now.newest a.mapper.now.history (told a.out.now).past (told a.maps.now).past (paced a.pace.now).past
 
--- The feed was run to its end. Where one version alone was published before it, the row of notes tells of each at the end, unless an output failed.
+-- The feed was run to its end. Where one version alone was published before it, the cell of each holds a note at the end, if its serial has one, unless an output failed.
 pub record IsFedBy {J S K M : Type 0} (fed : S → DeviceState Fed) (told : K → DeviceState Written) (paced : M → DeviceState (List PaceCall)) (a b : FeedLoan J S K M) : Type 0 where
   pub same : IsSame a b
   pub run : IsFeed a.mapper.now.newest.plan a.turns b.end (fed a.feed.now).past (fed b.feed.now).past (feed_scene told paced a) (feed_scene told paced b)

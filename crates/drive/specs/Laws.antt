@@ -38,7 +38,7 @@ abbrev pub all_logs : (turns : ℕ) (first : Version) (end : FeedEnd) (ends : Li
 all_logs turns first end ends stream_end before after d =
     logs_of turns first d.rest 0 ends before.lanes after.lanes d.lanes ++ stream_logs turns first d.rest (length ends) stream_end before.stream after.stream d.stream
 
--- Of each drive: the versions of its history are committed in order, and then, lane by lane, each datagram, and each message of the conversations, is taken behind a tell of what was known.
+-- Of each drive: the versions of its history are committed in order, and then, lane by lane, each datagram, and each message of the conversations, of the lanes that stand over that history is taken behind a tell of what was known.
 abbrev pub DrivesAreTaken : Type 0
 DrivesAreTaken = (turns : ℕ) (first : Version) (end : FeedEnd) (ends : List Ended) (stream_end : Option Ended) (before after : LentTold) (d : IsDriven turns first end ends stream_end before after)
     → (lanes : List LaneState) × HaveDone (all_logs turns first end ends stream_end before after d) lanes

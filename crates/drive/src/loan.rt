@@ -1,4 +1,5 @@
-//! All that a drive is lent: one value, made once, which goes through its functions.
+//! What the sides of a drive are lent: of one feed `FeedLoan`, with the lanes `Loan`; of several `TakerLoan`, and what their
+//! feeders share.
 ghost use Rattle.std.specs.Prelude.{◌≡◌};
 ghost use Rattle.map_cell.specs.Histories.{IsHistory};
 
@@ -14,7 +15,7 @@ use std::sync::{Arc, Wait};
 use topology_text::Topology;
 
 /// What the mapper's side is lent: the mapper, the feed, both outputs and the pace; and the number of turns, how the feed
-/// ended, and of how many maps the row of notes told then.
+/// ended, and how many of the row's first cells held a note then.
 #[derive(Drop)]
 pub(crate) struct FeedLoan<'x, 'f, 'o, 'm, 'p, J: Naming, S, K, M> {
     pub mapper: &'x mut Mapper<J>,
@@ -34,7 +35,7 @@ pub(crate) struct Loan<'x, 'f, 'o, 'm, 'p, 'l, J: Naming, S, K, M, L> {
     pub lanes: &'l mut [L],
 }
 
-/// Of how many maps the row of notes tells by what a run was lent.
+/// How many of the row's first cells hold a note, by what a run was lent.
 fn told_by<K, M>(to: &Outputs<'_, '_, '_, K, M>) -> Told
     ensures { result ≡ to.now.told }
 {
@@ -42,7 +43,7 @@ fn told_by<K, M>(to: &Outputs<'_, '_, '_, K, M>) -> Told
 }
 
 impl<J: Naming, S, K, M> FeedLoan<'_, '_, '_, '_, '_, J, S, K, M> {
-    /// Of how many maps the row of notes tells.
+    /// How many of the row's first cells hold a note.
     pub fn told(&self) -> Told
         ensures { result ≡ self.now.told }
     {

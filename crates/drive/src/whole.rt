@@ -48,7 +48,7 @@ pub struct DriveEnd {
     pub lanes: [Option<Ended>; MOST_VIEWERS],
     /// How the lane for conversations ended, if it had a viewer.
     pub stream: Option<Ended>,
-    /// Of one feed: of how many maps, from the first one on, the row of notes that all lanes read holds a note at the end.
+    /// Of one feed: how many cells of the row that all lanes read, from the first one on, hold a note at the end.
     pub told: Option<Told>,
 }
 
@@ -157,7 +157,7 @@ fn hand_on<J: Naming, R: Wait>(rt: &R, row: &NoteRow<J>, note: Note<J>) {
 }
 
 /// Hands on the first map's note, runs the feed beside the lanes, and then makes the closing look of each. What is lent
-/// stays lent. It answers of how many maps the row of notes tells then.
+/// stays lent. It answers how many of the row's first cells hold a note then.
 fn serve_all<
     J: Naming + Send + Sync,
     S: Source,

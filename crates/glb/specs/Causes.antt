@@ -47,11 +47,11 @@ HasTaken turns before after = BothTell before.port after.port (λ b c. c.recvs �
 abbrev pub HasHeard : ℕ → StreamLaneTold → StreamLaneTold → Type 0
 HasHeard turns before after = BothTell before.port after.port (λ b c. c.answers ≡ raised b.answers turns)
 
--- its door showed a serial beyond so many versions
+-- its door has ever shown or learned a serial beyond so many versions
 abbrev pub HasShown : ℕ → {T : Type 0} → ServerTold T → ServerTold T → Type 0
 HasShown versions before after = versions ≤ after.greatest
 
--- the count of its door rose, or that showed a serial beyond so many versions
+-- the count of its door rose, or its door has ever shown or learned a serial beyond so many versions
 abbrev pub HasCellFault : ℕ → {T : Type 0} → ServerTold T → ServerTold T → Type 0
 HasCellFault versions before after = HasDoorFault before after ⊎ HasShown versions before after
 
@@ -77,7 +77,7 @@ HasFeedGiven turns before after = HasGiven turns before.past after.past
 abbrev pub AreSpent : ℕ → Service → LentTold → LentTold → Type 0
 AreSpent turns ask before after = HasFeedGiven turns before.feed after.feed ⊎ AnyFeed (length ask.more) (HasFeedGiven turns) before.more after.more ⊎ AnyServer ask (HasTaken turns) (HasHeard turns) before after
 
--- the maps got some texts, and the door of one of the lanes showed a serial beyond as many versions
+-- the maps got some texts, and the door of one of the lanes has ever shown or learned a serial beyond as many versions
 abbrev pub IsPastMaps : Service → LentTold → LentTold → Type 0
 IsPastMaps ask before after = (texts : List (List ℕ)) × BothTell before.maps.past after.maps.past (IsPrinted texts) × AnyServer ask (HasShown (length texts)) (HasShown (length texts)) before after
 

@@ -81,7 +81,7 @@ AreQuiet (Some (say ask)) before after = (Rose before.files.faults after.files.f
 AreQuiet (Some (serve ask)) before after = IsServeQuiet ask before after
 AreQuiet (Some (large groups)) before after = Rose before.lent.out.faults after.lent.out.faults → ⊥
 
--- The answers that are left then: status 0 or want of memory; of `serve` also that turns were spent, where they were, and that a door showed a serial that was not published, where one did.
+-- The answers that are left then: status 0 or want of memory; of `serve` also that turns were spent, where they were, and a fault of the cell, where a door has ever shown or learned a serial that was not published.
 abbrev pub IsLeft : ℕ → Option Task → Surroundings → Surroundings → Status → Type 0
 IsLeft turns None before after result = ⊥
 IsLeft turns (Some (say ask)) before after result = (result ≡ status.Ok) ⊎ (result ≡ status.NoMemory)
@@ -99,7 +99,7 @@ IsGoodRun turns (Some (large groups)) before after = IsSummedRun groups before a
 
 -- what is promised of a run of the whole program, whose words ask for this task
 pub record IsPromised (turns : ℕ) (task : Option Task) (before after : Surroundings) (result : Status) : Type 0 where
-  -- What it does: a command that says one text puts it on the output, and touches nothing else but the files; `serve` publishes a history of good maps, and its lanes answer from it; `large` puts the summary of a run, line by line, and ends with status 0, with a fault of the output, or with want of memory. What the files say is what the octets say that were loaded; where files or feed don't tell them, there are octets for which that is so.
+  -- What it does: a command that says one text puts it on the output, and touches nothing else but the files; `serve` publishes a history of good maps, and its lanes answer from it, or, where the map cell failed one, from good maps that `IsServedLog` of drive names; `large` puts the summary of a run, line by line, and ends with status 0, with a fault of the output, or with want of memory. What the files say is what the octets say that were loaded; where files or feed don't tell them, there are octets for which that is so.
   pub run : IsProgramRun turns task before after result
   -- The files of the words are loaded in their order, once each, and each only where all before it say something,
   pub noted : BothTell before.files.past after.files.past (AreLoadsOf (loads_of task))
@@ -109,5 +109,5 @@ pub record IsPromised (turns : ℕ) (task : Option Task) (before after : Surroun
   pub causes : AreCauses turns task before after result
   -- Status 0 says, but of `large`, that a load of this run gave octets which say a topology; of `check`, `answer` and `repair` also that one gave a map that is good for it, and of `repair` that one gave changes; and that the output got, in one put, `good`, or of `map` the text of a map that is good for the topology and group-best, mapped from scratch, or of `places` how many units stand at each place by such a map, or of `answer` the reply of the map, or of `repair` the text of a map that is good for the changed numbers and keeps the rest. Of `serve` it says that the maps hold the texts of a history of good maps, the first one mapped from scratch, and nothing else, and that each of the first lanes, and that for conversations where it is asked for, answered from that history until its port's or its streams' end or its gate's stop. Of `large` it says that the output got the ten lines of the summary of a run.
   pub good : result ≡ status.Ok → IsGoodRun turns task before after
-  -- Where the files are told to hold a topology, for `check`, `answer` and `repair` a map that is good, and for `repair` changes, and no count of faults rises, there is no other answer but status 0 and want of memory; of `serve` also that turns were spent, where they were, and that a door showed a serial that was not published, where one did. For `large` nothing is asked of the files.
+  -- Where the files are told to hold a topology, for `check`, `answer` and `repair` a map that is good, and for `repair` changes, and no count of faults rises, there is no other answer but status 0 and want of memory; of `serve` also that turns were spent, where they were, and a fault of the cell, where a door has ever shown or learned a serial that was not published. For `large` nothing is asked of the files.
   pub complete : IsSound task before.files.past → AreQuiet task before after → IsLeft turns task before after result

@@ -45,7 +45,7 @@ abbrev pub is_spent : Ended → Bool
 is_spent lane.Spent = true
 is_spent _ = false
 
--- a lane's closing look was refused, or showed a map past the newest one
+-- a look of a lane was refused, at a datagram or at the closing look, or its closing look showed a map past the newest one
 abbrev pub is_cell_fault : Ended → Bool
 is_cell_fault lane.CellFault = true
 is_cell_fault (lane.Above known newest) = true
@@ -176,7 +176,7 @@ pub record IsStarted (ask : Service) (first : Version) (before after : LentTold)
   pub stays : after.maps.faults ≡ before.maps.faults
   pub rest : after ≡ record before { lanes = after.lanes; stream = after.stream; more = after.more; maps = after.maps }
 
--- The feeds were worked and the first lanes were served, and that for conversations where it is asked for, over one history of published maps that goes on from the first one; further feeds that were not asked for are untouched. The status is that of their ends, and each fault came with what it is a fault of: the count of a feed, of an output or of a door, eight more on that of a port or of the streams, as many turns as there may be, or a serial that was not published. The feeds' counts stood where no source's fault is answered, but for several feeds where an output's is, and those of both outputs where no output's is answered. Of one worker's replies, at whatever status, `driven` speaks: each lane has its `IsServedLog` of drive there.
+-- The feeds were worked and the first lanes were served, and that for conversations where it is asked for, over one history of published maps that goes on from the first one, but where the map cell failed a lane; further feeds that were not asked for are untouched. The status is that of their ends, and each fault came with what it is a fault of: the count of a feed, of an output or of a door, eight more on that of a port or of the streams, as many turns as there may be, or a serial that was not published. The feeds' counts stood where no source's fault is answered, but for several feeds where an output's is, and those of both outputs where no output's is answered. Of one worker's replies, at whatever status, `driven` speaks: each lane has its `IsServedLog` of drive there.
 pub record IsServed (turns : ℕ) (ask : Service) (first : Version) (before after : LentTold) (result : Status) : Type 0 where
   pub end : FeedEnd
   pub ends : List Ended

@@ -32,7 +32,7 @@ use Rattle.glb.specs.Files.{Says, topology_file}
 use Rattle.glb.specs.declared.status.Status.TheVariants as status
 use Rattle.glb.specs.Serve.{IsFirstOf, IsPlaced, IsServed, IsStarted}
 
--- A lane that ended well: in each turn its gate was asked and its port after that, whose count of faults rose by at least as many as its calls failed, and stands where none did; of each datagram with a reply one was tried, from a version of the history that is no older than what the lane had used or was told of, whether or not it went, since no look was refused (by `well` and `ending`, by which also fewer than eight calls failed); its worker was given the notes of the first versions, in their order, each once, in the turns of which the lane tells; what its gate was shown last is no less than what was known by then; and it went on until its port's end or its gate's stop.
+-- A lane that ended well: in each turn its gate was asked and its port after that, whose count of faults rose by at least as many as its calls failed, and stands where none did; of each datagram with a reply one was tried, right behind it, from a version of the history that is no older than what the lane had used or was told of, whether or not it went, since no look was refused (by `well` and `ending`, by which also fewer than eight calls failed); its worker was given the notes of the first versions, in their order, each once, in the turns of which the lane tells; where its gate stopped it, what that was shown then is no less than what was known by then; and it went on until its port's end or its gate's stop.
 pub record IsWellDone (turns : ℕ) (history : List Version) (w : ℕ) (before after : LaneTold) : Type 0 where
   pub log : List Turn
   pub ended : Ended
@@ -57,7 +57,7 @@ AreWellDone turns history w zero before after = after ≡ before
 AreWellDone turns history w (suc n) (b ∷ before) (c ∷ after) = IsWellDone turns history w b c × AreWellDone turns history (w + 1) n before after
 AreWellDone turns history w (suc n) _ _ = ⊥
 
--- A lane for conversations that ended well: in each turn its gate was asked and then its streams, whose count of faults rose by at least as many as their calls failed, and stands where none did; whatever the streams told before, if no conversation was open, those that they tell of behind those are a stream run over the history, from versions no older than what the lane had used or was told of, in which no look is refused, so each whole message that was read is taken, and has its reply unless it is silent, but behind a write that failed; its turns follow the rules of conversations, by which each is closed; its worker was given the notes of the first versions, in their order, each once, in the turns of which the lane tells; what its gate was shown last is no less than what was known by then; and it went on until its streams' end or its gate's stop.
+-- A lane for conversations that ended well: in each turn its gate was asked and then its streams, whose count of faults rose by at least as many as their calls failed, and stands where none did; whatever the streams told before, if no conversation was open, those that they tell of behind those are a stream run over the history, from versions no older than what the lane had used or was told of, in which no look is refused, so each whole message that was read is taken, and has its reply unless it is silent, but behind a write that failed; its turns follow the rules of conversations, by which each is closed; its worker was given the notes of the first versions, in their order, each once, in the turns of which the lane tells; where its gate stopped it, what that was shown then is no less than what was known by then; and it went on until its streams' end or its gate's stop.
 pub record IsStreamWellDone (turns : ℕ) (history : List Version) (w : ℕ) (before after : StreamLaneTold) : Type 0 where
   pub log : List StreamTurn
   pub closes : Bool

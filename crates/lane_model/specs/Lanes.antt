@@ -18,13 +18,13 @@ draw w n = ((n + 1) * 11400714819323198485 + w * 2 ^ 60) % 2 ^ 64
 abbrev pub following : ℕ → ℕ
 following n = (n + 1) % 2 ^ 64
 
--- a datagram that a lane took, what its worker knew then, and by which way it is replied to
+-- a datagram that a lane took, but for one whose look was refused; what its worker knew then, and by which way it is replied to
 pub record Entry : Type 0 where
   pub packet : Packet
   pub known : ℕ
   pub way : Way
 
--- the reply that was tried is that of one version of the history, by its serial no older than what was known; of time nothing is said
+-- the reply that was tried is that of one version of the history, whose place there the serial tells, no older than what was known; of time nothing is said
 pub record IsTryOf {V : Type 0} (a : Answers V) (h : List V) (w n : ℕ) (e : Entry) (s : Try) : Type 0 where
   pub to : s.to ≡ e.packet.from
   pub fresh : e.known ≤ s.serial

@@ -8,11 +8,11 @@ use Rattle.answer_core.specs.declared.way.Way.TheVariants.{Datagram}
 use Rattle.published_map.specs.Version.{Version}
 use Rattle.lane_model.specs.Lanes.{Answers}
 
--- octets that have no reply
+-- octets that have no reply, of whichever version
 unfoldable pub is_silent : List ℕ → Bool
 is_silent octets = silence.is_silent octets
 
--- the stated reply of a version to octets from an address, with a draw, by a way
+-- the stated reply of a version to octets from an address, with a draw, by a way: that of answer_core
 unfoldable pub reply_of : Version → Addr → List ℕ → ℕ → Way → Option (List ℕ)
 reply_of v from octets draw way = stated.reply_of v from octets draw way
 

@@ -1,10 +1,9 @@
-//! A change that a repair is to make.
+//! What a repair goes from and to.
 
 use map_model::{Instance, MapLines};
 use move_up::Asked;
 
-/// A change that a repair is to make: from an instance with its map, and its offers by their trees,
-/// to a new instance.
+/// What a repair goes from and to: from an instance with its map, and its offers by their trees, to a new instance.
 #[derive(Clone, Copy, Debug)]
 pub struct Renewal<'i> {
     pub old: &'i Instance,

@@ -60,7 +60,7 @@ impl<'r, 'x, 'n, 'o, 'm, 'p, R, J: Naming, K, M> Desk<'r, 'x, 'n, 'o, 'm, 'p, R,
         }
     }
 
-    /// Of how many maps the row of notes tells.
+    /// How many of the row's first cells hold a note.
     pub fn told(&self) -> Told
         ensures { result ≡ self.now.to.told }
     {

@@ -304,7 +304,8 @@ impl<J: Naming> Mapper<J> {
     /// Runs a feed to its end or for so many turns, 2^48 at most, from the newest map on, and then tells the pace that it has ended.
     ///
     /// Each map's text and each line of control text is one put, and nothing is put behind one that failed. When both
-    /// puts of a map are done, a note of it goes into the row, unless that is full, and is counted.
+    /// puts of a map are done, a note of it goes into the row, if that has a cell for its serial, and is counted where all before
+    /// it were.
     pub fn run_feed<R: Wait, S: Source, K: Sink, M: Pace>(
         &mut self,
         rt: &R,
@@ -353,8 +354,8 @@ impl<J: Naming> Mapper<J> {
     /// `SourceFault`, `Spent` and `NoMemory` by which a feed has ended, else `Ended`.
     ///
     /// Each map's text and each line of control text is one put; a line begins with its feed's number, from 1, and a space.
-    /// When both puts of a map are done, a note of it goes into the row, unless that is full, and is counted. Behind a put
-    /// that failed the items that are left are taken and dropped, and nothing is published.
+    /// When both puts of a map are done, a note of it goes into the row, if that has a cell for its serial, and is counted where
+    /// all before it were. Behind a put that failed the items that are left are taken and dropped, and nothing is published.
     pub fn run_feeds<R: Wait, N: Numbers, K: Sink, M: Pace>(
         &mut self,
         rt: &R,

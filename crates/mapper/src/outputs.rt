@@ -2,7 +2,7 @@
 
 use crate::Told;
 
-/// What a run is lent: both outputs, the pace, and of how many maps the row of notes tells.
+/// What a run is lent: both outputs, the pace, and how many of the row's first cells hold a note.
 #[derive(Drop)]
 pub struct Outputs<'o, 'm, 'p, K, M> {
     /// It gets the lines of control text.

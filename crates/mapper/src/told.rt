@@ -1,4 +1,4 @@
-//! How many maps the row of notes tells of.
+//! How many cells of the row hold a note.
 ghost use Rattle.std.specs.Prelude.{◌≡◌, ◌+◌, ◌<◌, ◌≤◌, List, Some, length, slice_get};
 ghost use Rattle.outside.specs.Limits.{most_notes};
 ghost use Rattle.published_map.specs.Version.{Version};
@@ -9,8 +9,8 @@ use outside::MOST_NOTES;
 use std::marker::Model;
 use std::sync::Wait;
 
-/// Of how many maps a row of notes tells, from serial 0 on. It rises by one, and only where the cell of the next serial is
-/// shown to hold a note.
+/// How many cells of a row, from the first one on, hold a note. It rises by one, and only where the next cell is shown to hold
+/// one. Of which map a note tells is in no clause.
 #[derive(Clone, Copy, Debug, PartialEq, Eq)]
 pub struct Told {
     count: u64,
@@ -43,14 +43,14 @@ fn put<'n, J: Naming, R: Wait>(
 }
 
 impl Told {
-    /// Of none.
+    /// None.
     pub fn of_none() -> Told
         ensures { result ≡ 0 }
     {
         Told { count: 0 }
     }
 
-    /// Of how many.
+    /// How many.
     pub fn count(self) -> u64
         ensures { result ≡ self }
     {
@@ -66,8 +66,8 @@ impl Told {
         self.count += 1;
     }
 
-    /// Puts a note into the cell of its serial, if there is one, unless that holds one. It is counted where all maps before
-    /// it were.
+    /// Puts a note into the cell of its serial, if there is one, unless that holds one. The cell is counted where all
+    /// before it were.
     pub fn tell<J: Naming, R: Wait>(&mut self, rt: &R, row: &NoteRow<J>, note: Note<J>)
         ensures told { (earlier : List Version) → length note.front ≡ length earlier + 1
             → AreTold earlier self.old → AreTold note.front self.new }

@@ -1,4 +1,4 @@
-//! Workers, which answer datagrams from the newest map that they look at.
+//! Workers, which answer datagrams, and messages of conversations, from the newest map that they look at.
 ghost use Rattle.std.specs.Prelude.{◌≡◌, ◌≤◌, ◌+◌, ◌⊎◌, false, length, max, Some};
 ghost use mathlib.Core.List.{IsPrefix};
 ghost use Rattle.outside.specs.Faults.{raised};

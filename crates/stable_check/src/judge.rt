@@ -12,7 +12,7 @@ use crate::scans::{
 };
 use crate::tallies::{tally_groups, tally_loads, tally_places, tally_worst};
 use crate::verdict::Verdict;
-use map_model::{Instance, Key, MapLine, MapLines, NameLine, PLACES};
+use map_model::{Instance, Key, MapLines, PLACES};
 use no_memory::NoMemory;
 use std::alloc::Global;
 use std::marker::Model;
@@ -61,23 +61,24 @@ impl CheckRoom {
 
 fn judge(
     instance: &Instance,
-    lines: &[MapLine],
-    names: &[NameLine],
+    map: &MapLines,
     totals: &mut [u64],
     amounts: &mut [u64],
     loads: &mut [u64],
     worst: &mut [Option<Key>],
 ) -> Verdict
     ghost held: { List MapLine }
-    requires held { lines.now ≡ held }
+    requires held { map.now.lines.items ≡ held }
     requires totals { length totals.old ≡ length instance.now.groups }
     requires amounts { length amounts.old ≡ 16 * length instance.now.groups }
     requires loads { length loads.old ≡ length instance.now.nodes }
     requires worst { length worst.old ≡ length instance.now.nodes }
-    ensures { Judges instance.now lines.now names.now result }
+    ensures { Judges instance.now map.now.lines.items map.now.names.items result }
 {
     // tells the prover what the type keeps
     let _groups = instance.groups();
+    let lines = map.lines.as_slice();
+    let names = map.names.as_slice();
     if let Some(index) = first_bad_line(instance, lines) {
         return Verdict::BadLine { index };
     }
@@ -129,8 +130,7 @@ pub fn check(instance: &Instance, map: &MapLines, room: &mut CheckRoom) -> Verdi
 {
     judge(
         instance,
-        map.lines.as_slice(),
-        map.names.as_slice(),
+        map,
         room.totals.as_mut_slice(),
         room.amounts.as_mut_slice(),
         room.loads.as_mut_slice(),
