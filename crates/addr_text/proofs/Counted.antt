@@ -24,10 +24,6 @@ map_together f o v rest is = ap (λ (p : Option ℕ). option_map f (together p r
 pub digit_step : (digit : ℕ → Option ℕ) (base n v : ℕ) (text : List ℕ) (i : ℕ) → i < length text → digit (get_or text i 0) ≡ Some v → value_from digit base (base * n + v) (drop (i + 1) text) ≡ value_from digit base n (drop i text)
 digit_step digit base n v text i lt is = sym (ap (value_from digit base n) (drop_more text i 0 lt) ∙ map_together (onto base n) (digit (get_or text i 0)) v (all_of digit (drop (i + 1) text)) is)
 
--- an octet that is no digit
-pub digit_bad : (digit : ℕ → Option ℕ) (base n : ℕ) (text : List ℕ) (i : ℕ) → i < length text → digit (get_or text i 0) ≡ None → value_from digit base n (drop i text) ≡ None
-digit_bad digit base n text i lt is = ap (value_from digit base n) (drop_more text i 0 lt) ∙ ap (λ (o : Option ℕ). option_map (onto base n) (together o (all_of digit (drop (i + 1) text)))) is
-
 onto_ge : (base n : ℕ) (digits : List ℕ) → 1 ≤ base → n ≤ onto base n digits
 onto_ge base n [] some = omega arith
 onto_ge base n (d ∷ ds) some = let up : n ≤ base * n + d = grind (arith, grows base n some) in let more = onto_ge base (base * n + d) ds some in omega arith

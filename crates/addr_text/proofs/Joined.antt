@@ -66,19 +66,6 @@ pub refused_last : (limit : ℕ) (value : List ℕ → Option ℕ) (p : ℕ → 
 refused_last limit value p xs old all hit why before =
     sym (ap (at_most limit) (sym before ∙ ap (λ ps. with_front old (all_of value ps)) (split_no_hit p xs hit)) ∙ by_cause limit value xs [] old why)
 
-pub front_start : (o : Option (List ℕ)) → with_front [] o ≡ o
-front_start None = refl
-front_start (Some vs) = refl
-
--- whoever has so many has no more than so many
-pub exactly : (n : ℕ) (o : Option (List ℕ)) → only_if (λ vs. length vs == n) (at_most n o) ≡ only_if (λ vs. length vs == n) o
-exactly n None = refl
-exactly n (Some vs) = go (nat_le (length vs) n) refl
-  where
-    go : (b : Bool) → nat_le (length vs) n ≡ b → only_if (λ ws. length ws == n) (cond b (Some vs) None) ≡ only_if (λ ws. length ws == n) (Some vs)
-    go true h = refl
-    go false h = let other : (length vs == n) ≡ false = grind (arith, nat_tests) in sym (ap (λ b. cond b (Some vs) None) other)
-
 -- two sides of which one has more than eight groups are not filled
 pub filled_at_most : (l r : Option (List ℕ)) → filled (at_most 8 l) (at_most 8 r) ≡ filled l r
 filled_at_most None r = refl

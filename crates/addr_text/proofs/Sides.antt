@@ -25,11 +25,6 @@ sides_on text i all lt missed before =
     let front : take (i + 1) text ≡ take i text ++ get_or text i 0 ∷ [] = take_more text i 0 lt in
     ap (λ (l : List ℕ). behind l (sides (drop (i + 1) text))) front ∙ sym (behind_more (take i text) (get_or text i 0) (sides (drop (i + 1) text))) ∙ sym (ap (behind (take i text)) step) ∙ before
 
-some_of : (text : List ℕ) → begins_double text ≡ true → 2 ≤ length text
-some_of [] h = cc
-some_of (a ∷ []) h = cc
-some_of (a ∷ b ∷ rest) h = omega arith
-
 -- it begins here
 pub sides_here : (text : List ℕ) (i : ℕ) (all : Option (List ℕ × List ℕ)) → i < length text → begins_double (drop i text) ≡ true → behind (take i text) (sides (drop i text)) ≡ all → Some (take i text, drop (i + 2) text) ≡ all
 sides_here text i all lt hit before =
@@ -39,9 +34,3 @@ sides_here text i all lt hit before =
     ap sides cut ∙ ap (λ t. cond t (Some ([], drop 1 (drop (i + 1) text))) (option_map (on_left (get_or text i 0)) (sides (drop (i + 1) text)))) yes_here in
     let back : drop 1 (drop (i + 1) text) ≡ drop (i + 2) text = drop-drop 1 (i + 1) text ∙ ap (λ (n : ℕ). drop n text) (omega arith) in
     sym (ap (behind (take i text)) step ∙ ap (λ (l : List ℕ). Some (l, drop 1 (drop (i + 1) text))) (append-nil (take i text)) ∙ ap (λ (l : List ℕ). Some (take i text, l)) back) ∙ before
-
-pub sides_start : (text : List ℕ) → behind (take 0 text) (sides (drop 0 text)) ≡ sides text
-sides_start text = behind_none (sides text)
-
-pub sides_end : (text : List ℕ) (i : ℕ) (all : Option (List ℕ × List ℕ)) → length text ≤ i → behind (take i text) (sides (drop i text)) ≡ all → None ≡ all
-sides_end text i all past before = sym (ap (λ (l : List ℕ). behind (take i text) (sides l)) (drop_all i text past)) ∙ before

@@ -139,16 +139,3 @@ view_fits size (variants.Error rcode) short = tt
 view_fits size (variants.Negative rcode) short = tt
 view_fits size (variants.Positive found scope) short = few_fit size found short
 view_fits size (variants.Truncated scope) short = tt
-
-few_of : (size : ℕ) (r : code_records.Records) → AreShort size r → AreFew r
-few_of size records.Soa short = tt
-few_of size records.NameServers short = tt
-few_of size (records.Addresses kind addresses) short = short.1
-
--- what is short under some name is few
-pub few_short : (size : ℕ) (o : code.Outcome) → IsShort size o → IsFew o
-few_short size variants.BadVers short = tt
-few_short size (variants.Error rcode) short = tt
-few_short size (variants.Negative rcode) short = tt
-few_short size (variants.Positive found scope) short = few_of size found short
-few_short size (variants.Truncated scope) short = tt

@@ -17,11 +17,6 @@ use Rattle.best_check.specs.Tables.{IsNextAt}
 abbrev pub IsLead : Market → List MapLine → ℕ → Option NodeId → Type 0
 IsLead m lines n lead = (g k j : ℕ) → IsNextInLine m (limit_of m) lines n g k → placed lines g ≡ demand_of m g → IsLastPlace lines g j → lead ≡ Some (record { 0 = pool_of m g j })
 
--- the offer that is next in line is one
-pub next_offer : (m : Market) (lines : List MapLine) (n : ℕ) (next : Option Ranked) → IsNextAt m lines n next → IfSome next (λ o. IsOffer m o.offer.group.0 o.offer.place)
-next_offer m lines n None none = search rules
-next_offer m lines n (Some o) next = next.in_line.offer
-
 -- what is so of the one that is next in line, is so of each
 pub lead_is : (m : Market) → IsMarket m → (lines : List MapLine) (n : ℕ) (next : Option Ranked) (lead : Option NodeId) → IsNextAt m lines n next → IfSome next (λ o. (j : ℕ) → placed lines o.offer.group.0 ≡ demand_of m o.offer.group.0 → IsLastPlace lines o.offer.group.0 j → lead ≡ Some (record { 0 = pool_of m o.offer.group.0 j })) → IsLead m lines n lead
 lead_is m market lines n None lead none leads = λ g k j next whole last. absurd (none g k next.in_line next.room)

@@ -26,22 +26,3 @@ wanted_by_free m state o g there some = λ k l. lt-ltb (placed_through state.lin
 -- and one that has units at its pointer wants more before it
 pub wanted_by_pointer : (m : Market) (state : Standing) → IsOpen m state → (g : ℕ) → g < length m.groups → 0 < amount_at state.lines g (slice_index state.pointers g) → AreWanted m state g
 wanted_by_pointer m state o g there some = λ k l. lt-ltb (placed_through state.lines g k) (demand_of m g) (omega (arith, through_and_later state.lines g k (slice_index state.pointers g) l, o.totals g there, some))
-
--- where all places before pointers are refused, an open state is resumable
-pub ready_if_refused : (m : Market) (state : Standing) → IsOpen m state → ((g : ℕ) → g < length m.groups → AreRefused m state g) → IsReady m state
-ready_if_refused m state o refused = record {
-  market = o.market;
-  whole = o.whole;
-  shape = o.shape;
-  resumable = record {
-    form = o.form;
-    pointers_for = o.pointers_for;
-    free_for = o.free_for;
-    capacities = o.capacities;
-    limits = o.limits;
-    totals = o.totals;
-    in_list = o.in_list;
-    none_past = o.none_past;
-    refused = λ g k offer before. refused g offer.group k before;
-  };
-}

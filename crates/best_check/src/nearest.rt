@@ -13,13 +13,13 @@ use no_memory::NoMemory;
 use std::alloc::Global;
 
 /// Whether a node is full.
-pub fn is_full(instance: &Instance, state: &State, node: NodeId) -> bool
+pub fn is_full(instance: &Instance, state: &State, at: NodeId) -> bool
     requires whole { IsTrue state.now.is_whole }
     requires shape { IsSameShape state.now.market instance.now }
-    requires node { node.0 < length instance.now.nodes }
-    ensures { result ≡ (load instance.now state.now.lines node.0 == capacity_of instance.now node.0) }
+    requires node { at.0 < length instance.now.nodes }
+    ensures { result ≡ (load instance.now state.now.lines at.0 == capacity_of instance.now at.0) }
 {
-    state.load(node) == instance.capacity(node)
+    state.load(at) == instance.capacity(at)
 }
 
 /// The full node of a node's path that is nearest to it.

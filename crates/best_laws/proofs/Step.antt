@@ -45,7 +45,3 @@ within_moved m old new other ready later same right within =
 -- a fresh state is ahead: no place stands before a pointer
 pub ahead_fresh : (m : Market) (state : Standing) → IsFresh m state → IsAhead m state.lines state.pointers
 ahead_fresh m state fresh other right g k o below = absurd (omega (arith, fresh.pointers g o.group, below))
-
--- so no feasible and stable map has more at the places up to one that stands before the pointer
-pub ahead_through : (m : Market) (lines : List MapLine) (pointers : List ℕ) → IsAhead m lines pointers → (other : List MapLine) → IsRightMap m other → (g k : ℕ) → IsOffer m g k → k < slice_index pointers g → placed_through other g k ≤ placed_through lines g k
-ahead_through m lines pointers ahead other right g k o below = through_le other lines g k (λ j l. ahead other right g j (record { group = o.group; place = omega (arith, o.place, l) }) (omega (arith, below, l)))

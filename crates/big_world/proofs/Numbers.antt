@@ -19,6 +19,3 @@ draw_three x m = draw_more x 2 m
 
 pub behind_two : (x : ℕ) → behind (behind x 1) 1 ≡ behind x 2
 behind_two x = refl
-
-pub behind_three : (x : ℕ) → behind (behind x 2) 1 ≡ behind x 3
-behind_three x = refl

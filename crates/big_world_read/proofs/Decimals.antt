@@ -31,10 +31,6 @@ pub decimal_has_no : (c : ℕ) → (c < 48) ⊎ (57 < c) → (m : ℕ) → m < 2
 decimal_has_no c (inl low) m small = decimal_lacks (λ b. b == c) (λ d h. grind (arith, nat_tests)) m small
 decimal_has_no c (inr high) m small = decimal_lacks (λ b. b == c) (λ d h. grind (arith, nat_tests)) m small
 
--- the octets are digits
-pub decimal_digits : (m : ℕ) → m < 2 ^ 64 → list_all (λ b. nat_le 48 b && nat_le b 57) (decimal m) ≡ true
-decimal_digits m small = decimal_passes (λ b. nat_le 48 b && nat_le b 57) (λ d h. grind (arith, nat_tests)) m small
-
 -- one at least, and as many as the number is below a power of ten
 pub decimal_some : (m : ℕ) → m < 2 ^ 64 → 1 ≤ length (decimal m)
 decimal_some m small = decimal_nonempty m small

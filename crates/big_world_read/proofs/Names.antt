@@ -123,13 +123,6 @@ pool_good i j low less =
     ∙ good_name (region_name i ++ (45 ∷ (48 + j) ∷ [])) (omega arith) (omega arith)
     (list_all-append is_name_byte (region_name i) (45 ∷ (48 + j) ∷ []) ∙ ap (λ b. b && (is_name_byte (48 + j) && true)) (name_bytes i low) ∙ ap (λ b. b && true) last)
 
-pub node_good : (p : ℕ) → p < 2 ^ 64 → is_name (node_name p) ≡ true
-node_good p low = go (p % 5 == 0) refl
-  where
-    go : (b : Bool) → (p % 5 == 0) ≡ b → is_name (node_name p) ≡ true
-    go true first = ap is_name (named_region p first) ∙ region_good (p / 5) (omega arith)
-    go false other = ap is_name (named_pool p other) ∙ pool_good (p / 5) (p % 5 - 1) (omega arith) (omega arith)
-
 -- what the entry of a region says, and that of a pool
 region_named : (i capacity : ℕ) → text_at (region_data i capacity) Name ≡ Some (region_name i)
 unfolding region_data
@@ -192,9 +185,6 @@ group_named n i = refl
 -- the entries of the two arrays
 pub node_at : (n p : ℕ) → p < nodes_of n → entry_at (nodes_data n) p ≡ node_entry n p
 node_at n p within = get_or-map-range_with_len (node_entry n) 0 (nodes_of n) p p (boolean false) within (omega arith)
-
-pub group_at : (n i : ℕ) → i < n → entry_at (groups_data n) i ≡ group_entry n i
-group_at n i within = get_or-map-range_with_len (group_entry n) 0 n i i (boolean false) within (omega arith)
 
 -- an entry is called by its name alone
 called_so : (e : Data) (name : List ℕ) → text_at e Name ≡ Some name → is_called name (text_at e Name) ≡ true

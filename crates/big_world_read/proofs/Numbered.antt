@@ -40,8 +40,3 @@ none_from test i (d ∷ ds) h = ap (λ (b : Bool). cons_option (if b then Some (
 
 pub none_where : (test : Data → Bool) (ds : List Data) → AllByRecursion (λ d. test d ≡ false) ds → items_where test (list_of (array_of ds)) ≡ []
 none_where test ds h = ap (λ (xs : List Data). items_where test xs) (listed_again ds) ∙ none_from test 0 ds h
-
--- each fails no test, whatever it is
-pub all_of : (test : Data → Bool) → ((d : Data) → test d ≡ false) → (ds : List Data) → AllByRecursion (λ d. test d ≡ false) ds
-all_of test h [] = tt
-all_of test h (d ∷ ds) = (h d, all_of test h ds)

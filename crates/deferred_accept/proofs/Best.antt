@@ -32,17 +32,7 @@ within_many m (suc n) old new other ready made right within =
 pub ahead_many : (m : Market) (n : ℕ) (old new : Standing) → IsReady m old → AreProposals m n old new → IsAhead m old.lines old.pointers → IsAhead m new.lines new.pointers
 ahead_many m n old new ready made ahead other right = within_many m n old new other ready made right (ahead other right)
 
--- at each moment of a run from a fresh state, no feasible and stable map has more at a place before its group's pointer
-pub ahead_from_fresh : (m : Market) (n : ℕ) (old new : Standing) → IsFresh m old → AreProposals m n old new → IsAhead m new.lines new.pointers
-ahead_from_fresh m n old new fresh made = ahead_many m n old new fresh.ready made (ahead_fresh m old fresh)
-
 -- an ended state that is ahead holds a group-best map
 pub best_of_ended : (m : Market) (state : Standing) → IsReady m state → IsEnded m state.pointers state.free → IsAhead m state.lines state.pointers → IsGroupBest m state.lines
 best_of_ended m state ready ended ahead =
     best_of_stable m ready.market state.lines state.pointers state.free ready.resumable (finished m state (names_of m state.lines) ready ended refl).stable ahead
-
--- what is stable at such a moment is group-best
-pub best_from_fresh : (m : Market) (n : ℕ) (old new : Standing) → IsFresh m old → AreProposals m n old new → IsStable m new.lines → IsGroupBest m new.lines
-best_from_fresh m n old new fresh made stable =
-    let ready = ready_many m n old new fresh.ready made in
-    best_of_stable m ready.market new.lines new.pointers new.free ready.resumable stable (ahead_from_fresh m n old new fresh made)

@@ -21,33 +21,6 @@ times_more groups g h = sum_by_push (λ (x : GroupId). if x.0 == h then 1 else 0
 times_first : (groups : List GroupId) (g : GroupId) (h : ℕ) → times (g ∷ groups) h ≡ (if g.0 == h then 1 else 0) + times groups h
 times_first groups g h = sum_by-cons (λ (x : GroupId). if x.0 == h then 1 else 0) g groups
 
--- a list that names one group once more, which was not on
-listed_with : (groups new : List GroupId) (on : List Bool) (g : GroupId) → HoldsEachOnce groups on → g.0 < length on → is_on on g.0 ≡ false → All (λ x. x.0 < length on) new → ((h : ℕ) → times new h ≡ times groups h + (if g.0 == h then 1 else 0))
-    → HoldsEachOnce new (slice_set on g.0 true)
-listed_with groups new on g listed l off there more =
-    let same : length (slice_set on g.0 true) ≡ length on = length-set on g.0 true in
-    record {
-      there = subst (λ n. All (λ (x : GroupId). x.0 < n) new) (sym same) there;
-      once = λ h lh. elim (cases_eq h g.0) [
-        | inl e ↦
-            let before : times groups h ≡ 0 = listed.once h (omega (arith, same)) ∙ ap one_if (ap (is_on on) e ∙ off) in
-            let now : (if is_on (slice_set on g.0 true) h then 1 else 0) ≡ 1 = ap one_if (get_or-set_at on g.0 h true false e l) in
-            let this : (if g.0 == h then 1 else 0) ≡ 1 = ap one_if (eq-eqb g.0 h (sym e)) in
-            omega (arith, more h, before, now, this)
-        | inr ne ↦
-            let now : (if is_on (slice_set on g.0 true) h then 1 else 0) ≡ (if is_on on h then 1 else 0) = ap one_if (get_or-set_other on g.0 h true false ne) in
-            let this : (if g.0 == h then 1 else 0) ≡ 0 = ap one_if (ne_eqb g.0 h (λ e. ne (sym e))) in
-            omega (arith, more h, listed.once h (omega (arith, same)), now, this)
-      ];
-    }
-
--- a group that is not there yet is put on the list, at its end or in front
-pub listed_more : (groups : List GroupId) (on : List Bool) (g : GroupId) → HoldsEachOnce groups on → g.0 < length on → is_on on g.0 ≡ false → HoldsEachOnce (groups ++ g ∷ []) (slice_set on g.0 true)
-listed_more groups on g listed l off = listed_with groups (groups ++ g ∷ []) on g listed l off (All-push (λ (x : GroupId). x.0 < length on) groups g listed.there l) (times_more groups g)
-
-pub listed_front : (groups : List GroupId) (on : List Bool) (g : GroupId) → HoldsEachOnce groups on → g.0 < length on → is_on on g.0 ≡ false → HoldsEachOnce (g ∷ groups) (slice_set on g.0 true)
-listed_front groups on g listed l off = listed_with groups (g ∷ groups) on g listed l off (All-cons (λ (x : GroupId). x.0 < length on) g groups l listed.there) (λ h. omega (arith, times_first groups g h))
-
 -- the first group of a list is there
 pub first_there : (groups rest : List GroupId) (on : List Bool) (g : GroupId) → groups ≡ g ∷ rest → HoldsEachOnce groups on → g.0 < length on
 first_there groups rest on g is listed = All-head (λ (x : GroupId). x.0 < length on) g rest (subst (λ (gs : List GroupId). All (λ x. x.0 < length on) gs) is listed.there)
@@ -100,15 +73,6 @@ pub none_left : (groups rest : List GroupId) → groups ≡ rest → rest ≡ dr
 none_left [] rest e f = refl
 none_left (g ∷ groups) rest e f = let one_less : length (g ∷ groups) ≡ length groups = ap length (e ∙ f) in absurd (omega arith)
 
--- a list that names each of so many groups once
-pub listed_all : (groups : List GroupId) (n : ℕ) → All (λ x. x.0 < n) groups → ((h : ℕ) → h < n → times groups h ≡ 1) → HoldsEachOnce groups (replicate n true)
-listed_all groups n there once =
-    let size : length (replicate n true) ≡ n = length-replicate n true in
-    record {
-      there = subst (λ k. All (λ (x : GroupId). x.0 < k) groups) (sym size) there;
-      once = λ h l. once h (omega (arith, size)) ∙ sym (ap one_if (get_or-replicate n h true false (omega (arith, size))));
-    }
-
 -- a group past all that a list names is not named
 times_none : (groups : List GroupId) (n h : ℕ) → All (λ x. x.0 < n) groups → n ≤ h → times groups h ≡ 0
 times_none [] n h there le = refl
@@ -133,9 +97,3 @@ there_more groups g there = All-push (λ (x : GroupId). x.0 < g + 1) groups (rec
 -- how many groups are on a list of work
 abbrev pub how_many : List Bool → ℕ
 how_many work = sum_by (λ (b : Bool). if b then 1 else 0) work
-
--- one fewer, where one is taken off
-pub one_fewer : (work : List Bool) (g : ℕ) → g < length work → is_on work g ≡ true → how_many (slice_set work g false) < how_many work
-one_fewer work g l e =
-    let was : (if is_on work g then 1 else 0) ≡ 1 = ap one_if e in
-    omega (arith, sum_by-set (λ (b : Bool). if b then 1 else 0) work g false false l, was)

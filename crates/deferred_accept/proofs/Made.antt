@@ -30,14 +30,3 @@ round_made m old new ready hops units room rounds before after round fits le som
   pointers = passed.pointers;
   free = passed.free;
 }
-
--- no round is a turn of no proposals
-pub none_made : (m : Market) (old : Standing) (before : ℕ) → before < 2 ^ 64 → HasTurned m old old before before
-none_made m old before small = record {
-  count = 0;
-  proposals = (0, refl);
-  small = small;
-  counted = let same : before + 0 ≡ before = omega arith in sym (ap (λ b. if b then before + 0 else 2 ^ 64 - 1) (lt-ltb (before + 0) (2 ^ 64) (omega arith)) ∙ same);
-  pointers = refl;
-  free = refl;
-}

@@ -36,10 +36,6 @@ others_passed pointers g k units (h ∷ hs) apart =
     let none : (if (displaced h == g) && (slice_index pointers (displaced h) == k) then units else 0) ≡ 0 = rw out refl in
     omega (arith, sum_by-cons (λ (x : Hop). if (displaced x == g) && (slice_index pointers (displaced x) == k) then units else 0) h hs, none, others_passed pointers g k units hs (All-tail (λ (x : Hop). displaced x ≡ g → ⊥) h hs apart))
 
--- nothing is passed on yet
-pub passed_none : (state : Standing) (hops : List Hop) (units : ℕ) → CanPass state hops units → IsPassed state state (take 0 hops) units
-passed_none state hops units can = record { market = refl; whole = can.whole; form = can.form; pointers = refl; free = refl; held = λ test. refl }
-
 -- in the middle the next hop's shift may be made, since no other hop displaces its group
 pub pass_can : (state now : Standing) (hops : List Hop) (units i : ℕ) (d : Hop) → CanPass state hops units → IsPassed state now (take i hops) units → i < length hops
     → CanShift now (displaced (get_or hops i d)) (get_or hops i d).rival.offer.place (slice_index now.pointers (displaced (get_or hops i d))) units

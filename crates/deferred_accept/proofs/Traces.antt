@@ -18,19 +18,6 @@ pub record IsTrace (m : Market) (state : Standing) (start : ℕ) (hops : List Ho
   pub once : All (λ h. hopper h ≡ start → ⊥) rest
   pub idle : All (λ h. slice_index state.free (hopper h) ≡ 0) rest
 
--- the first hop
-pub trace_one : (m : Market) (state : Standing) (start : ℕ) (first : Hop) (hops : List Hop) → IsHop m state first → hopper first ≡ start → hops ≡ first ∷ [] → IsTrace m state start hops (displaced first)
-trace_one m state start first hops hop starts listed = record {
-  first = first;
-  rest = [];
-  listed = listed;
-  starts = starts;
-  all = All-cons (λ h. IsHop m state h) first [] hop (All-nil (λ h. IsHop m state h));
-  linked = refl;
-  once = All-nil (λ h. hopper h ≡ start → ⊥);
-  idle = All-nil (λ h. slice_index state.free (hopper h) ≡ 0);
-}
-
 -- one hop more
 pub trace_more : (m : Market) (state : Standing) (start next : ℕ) (hops more : List Hop) (hop : Hop) → IsTrace m state start hops next → IsHop m state hop → hopper hop ≡ next → slice_index state.free (hopper hop) ≡ 0 → (next ≡ start → ⊥) → more ≡ hops ++ hop ∷ []
     → IsTrace m state start more (displaced hop)

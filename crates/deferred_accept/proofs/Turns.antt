@@ -99,46 +99,6 @@ covers_step m old new g freed rest work covered before there count each = record
         still : (h : ℕ) → (h ≡ g → ⊥) → (is_on rest h || (g == h)) ≡ true → is_on rest h ≡ true
         still h ne both = elim (or_cases (is_on rest h) (g == h) both) [ inl e ↦ e | inr e ↦ absurd (ne (sym (eqb-true g h e))) ]
 
--- the list of work without one of its groups
-pub covers_rest : (m : Market) (state : Standing) (work : List Bool) (g : ℕ) → CoversWork m state work → CoversRest m state g (slice_set work g false)
-covers_rest m state work g covered = record {
-  count = length-set work g false ∙ covered.count;
-  waiting = λ h w. elim (cases_eq g h) [
-    | inl e ↦ or_right (is_on (slice_set work g false) h) (g == h) (eq-eqb g h e)
-    | inr ne ↦ or_left (is_on (slice_set work g false) h) (g == h) (get_or-set_other work g h false false (λ e. ne (sym e)) ∙ covered.waiting h w)
-  ];
-}
-
--- where that group does not wait, all others still stand on the list
-pub covers_less : (m : Market) (state : Standing) (work : List Bool) (g : ℕ) → CoversWork m state work → (IsWaiting m state g → ⊥) → CoversWork m state (slice_set work g false)
-covers_less m state work g covered idle = record {
-  count = length-set work g false ∙ covered.count;
-  waiting = λ h w. elim (cases_eq h g) [
-    | inl e ↦ absurd (idle (subst (λ x. IsWaiting m state x) e w))
-    | inr ne ↦ get_or-set_other work g h false false ne ∙ covered.waiting h w
-  ];
-}
-
--- where no group is on the list, none waits
-pub covers_none : (m : Market) (state : Standing) (work : List Bool) → IsReady m state → CoversWork m state work → ((h : ℕ) → h < length work → is_on work h ≡ false) → IsEnded m state.pointers state.free
-covers_none m state work ready covered none g l place = elim (cases_eq (slice_index state.free g) 0) [
-  | inl e ↦ e
-  | inr some ↦ absurd (false≢true (sym (none g (omega (arith, covered.count, l))) ∙ covered.waiting g (record { group = l; free = omega arith; place = place })))
-]
-
--- one group more that gave up units
-pub on_more : (old work : List Bool) (freed : List Eviction) (i : ℕ) (d : Eviction) (h : ℕ) → i < length freed → h < length work → is_on work h ≡ (is_on old h || gave_any (take i freed) h)
-    → is_on (slice_set work (get_or freed i d).offer.group.0 true) h ≡ (is_on old h || gave_any (take (i + 1) freed) h)
-on_more old work freed i d h l there before =
-    let e : Eviction = get_or freed i d in
-    let more : gave_any (take (i + 1) freed) h ≡ (gave_any (take i freed) h || (e.offer.group.0 == h)) = list_any_more (λ (x : Eviction). x.offer.group.0 == h) freed i d l in
-    elim (cases_eq h e.offer.group.0) [
-      | inl same ↦ get_or-set_at work e.offer.group.0 h true false same (omega (arith, there, same))
-          ∙ sym (or_right (is_on old h) (gave_any (take (i + 1) freed) h) (more ∙ or_right (gave_any (take i freed) h) (e.offer.group.0 == h) (eq-eqb e.offer.group.0 h (sym same))))
-      | inr ne ↦ get_or-set_other work e.offer.group.0 h true false ne ∙ before
-          ∙ ap (λ b. is_on old h || b) (sym (more ∙ ap (λ b. gave_any (take i freed) h || b) (ne_eqb e.offer.group.0 h (λ x. ne (sym x))) ∙ or-false (gave_any (take i freed) h)))
-    ]
-
 -- a proposal is counted once, and the worth of the state falls by one at least
 pub counted_step : (start worth0 old new was now : ℕ) (full : Bool) → new ≡ (if full then old else old + 1) → now < was → old + was ≤ start + worth0 → new + now ≤ start + worth0
 counted_step start worth0 old new was now true e less before = omega arith

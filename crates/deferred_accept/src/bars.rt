@@ -28,12 +28,12 @@ pub struct Bar {
 }
 
 /// Whether a node is full.
-fn is_full(instance: &Instance, state: &State, node: NodeId) -> bool
+fn is_full(instance: &Instance, state: &State, at: NodeId) -> bool
     requires ready { IsReady instance.now state.now }
-    requires node { node.0 < length instance.now.nodes }
-    ensures { result ≡ (load instance.now state.now.lines node.0 == capacity_of instance.now node.0) }
+    requires node { at.0 < length instance.now.nodes }
+    ensures { result ≡ (load instance.now state.now.lines at.0 == capacity_of instance.now at.0) }
 {
-    state.load(node) == instance.capacity(node)
+    state.load(at) == instance.capacity(at)
 }
 
 /// The key from which on a node refuses, if it is full.

@@ -62,7 +62,8 @@ pub fn run<L>(
     ensures ended { OnOk result (IsEnded instance.now state.new.pointers state.new.free) }
     ensures steps { OnOk result (steps.new ≤ steps.old
         + most_proposals instance.now state.old.pointers) }
-    ensures counted { OnOk result (HasProposed instance.now state.old state.new steps.old steps.new) }
+    ensures counted { OnOk result
+        (HasProposed instance.now state.old state.new steps.old steps.new) }
     ensures later { steps.old ≤ steps.new }
     ensures wanted { OnOk result (WantsBefore instance.now state.old
         → WantsBefore instance.now state.new) }

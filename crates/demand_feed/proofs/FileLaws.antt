@@ -136,10 +136,6 @@ answered_lines t text r e = subst (LinesSay t (lines_of true text)) e (lines_say
 pub answered : (t : Plan) (text : List ℕ) (r : Result (List Change) ChangesFault) → changes_of t text ≡ r → FileSays t text r
 answered t text r e = unfold FileSays in answered_lines t text r e
 
--- An answer is that on a file exactly where the file says it.
-pub says_alone : (t : Plan) (text : List ℕ) (r : Result (List Change) ChangesFault) → (changes_of t text ≡ r) ↔ FileSays t text r
-says_alone t text r = unfold FileSays in (answered_lines t text r, lines_alone t text r)
-
 -- A file is good exactly where each of its lines asks for a change and there are at most 4,096 lines, and its changes are these, in order.
 pub good_file : (t : Plan) (text : List ℕ) (changes : List Change) → (changes_of t text ≡ Ok changes) ↔ (AskFor t (lines_of true text) changes × (length changes ≤ most_changes))
 good_file t text changes = (answered_lines t text (Ok changes), lines_alone t text (Ok changes))

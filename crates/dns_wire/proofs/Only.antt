@@ -30,11 +30,6 @@ filtered true None r rs e = rw e (root (is_root r.owner) r (filter is_opt rs) re
 filtered true (Some x) r rs e = rw e refl
 filtered false found r rs e = rw e refl
 
--- steps in another order
-assoc : {A B C : Type 0} (o : Option A) (f : A → Option B) (g : B → Option C) → ((o >>= f) >>= g) ≡ (o >>= λ x. f x >>= g)
-assoc None f g = refl
-assoc (Some x) f g = refl
-
 commute : (found : Option Extension) (r : Record) (o : Option (List Record)) → ((o >>= λ others. Some (r ∷ others)) >>= λ rs. only_more found (filter is_opt rs)) ≡ (with_record found r >>= λ f. o >>= λ rs. only_more f (filter is_opt rs))
 commute found r None = sym (nothing (with_record found r))
 commute found r (Some rs) = filtered (is_opt r) found r rs refl

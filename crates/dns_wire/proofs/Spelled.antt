@@ -14,19 +14,6 @@ record Spells (octets : List ℕ) (size : ℕ) : Type 0 where
   spelled : take size octets ≡ wire labels
   size_is : size ≡ length (wire labels)
 
--- a spelling is read as a name, whatever follows it
-pub again : (labels : List (List ℕ)) (rest : List ℕ) → AreLabels labels → name_len false 0 (wire labels ++ rest) ≡ Some (length (wire labels))
-unfolding name_len
-again [] rest form = refl
-again (label ∷ labels) rest form =
-    let e : (label ++ wire labels) ++ rest ≡ label ++ (wire labels ++ rest) = append_assoc label (wire labels) rest in
-    let past : drop (length label) (label ++ (wire labels ++ rest)) ≡ wire labels ++ rest = drop_at label (wire labels ++ rest) (length label) refl in
-    ap (λ (l : List ℕ). name_len false 0 (length label ∷ l)) e
-    ∙ name_len-label false (length label) (label ++ (wire labels ++ rest)) form.0 form.1
-    ∙ ap (λ (l : List ℕ). later (1 + length label) (name_len false 0 l)) past
-    ∙ ap (later (1 + length label)) (again labels rest form.2)
-    ∙ ap (λ (n : ℕ). Some n) (omega (arith, length-append label (wire labels)))
-
 -- a length that is counted from further on is there
 later_some : (k n : ℕ) (o : Option ℕ) → later k o ≡ Some n → (m : ℕ) × (o ≡ Some m) × (n ≡ k + m)
 later_some k n None e = absurd cc

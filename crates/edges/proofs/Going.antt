@@ -113,9 +113,6 @@ IsSettledBelow now last last' n i seat room seat' room' = (i < n → IsSettled n
 abbrev pub SettledBelow : ℕ → ℕ → ℕ → ℕ → List Seat → List Room → List Seat → List Room → Type 0
 SettledBelow now last last' n seats rooms seats' rooms' = ((last ≤ last') × (last' ≤ raised last n)) × AreAllChanged (IsSettledBelow now last last' n) seats rooms seats' rooms'
 
-pub none_settled : (now last : ℕ) (seats : List Seat) (rooms : List Room) → SettledBelow now last last 0 seats rooms seats rooms
-none_settled now last seats rooms = ((omega arith, omega arith), record { seats_stay = refl; rooms_stay = refl; each = λ i seat room s r. (seat, room, s, r, ((λ lt. absurd (omega (arith, lt))), λ le. (refl, refl))) })
-
 -- one more
 pub one_settled : (now l m m1 n : ℕ) (s0 s1 s2 : List Seat) (r0 r1 r2 : List Room) → SettledBelow now l m n s0 r0 s1 r1 → (n < length s1 → n < length r1 → IsPlaceChangedAt (IsSettled now m m1) n s1 r1 s2 r2) → ((length s1 ≤ n) ⊎ (length r1 ≤ n) → (s2 ≡ s1) × (r2 ≡ r1)) → (m ≤ m1) × (m1 ≤ raised m 1) → SettledBelow now l m1 (n + 1) s0 r0 s2 r2
 one_settled now l m m1 n s0 s1 s2 r0 r1 r2 ((lower, few), below) at none (higher, one) = ((omega (arith, lower, higher), omega (arith, few, one)), by (within n (length s1)) (within n (length r1)))
@@ -165,14 +162,6 @@ one_settled now l m m1 n s0 s1 s2 r0 r1 r2 ((lower, few), below) at none (higher
           where
             fewer : i < n + 1 → i < n
             fewer less = ⊎_elim (λ lt. lt) (λ le. absurd (other (omega (arith, less, le)))) (within i n)
-
--- all of them
-pub all_settled : (now l m n : ℕ) (s0 s1 : List Seat) (r0 r1 : List Room) → length s0 ≤ n → SettledBelow now l m n s0 r0 s1 r1 → AreAllChanged (λ _. IsSettled now l m) s0 r0 s1 r1
-all_settled now l m n s0 s1 r0 r1 le (rises, below) = record {
-  seats_stay = below.seats_stay;
-  rooms_stay = below.rooms_stay;
-  each = λ i seat room s r. let a = below.each i seat room s r in (a.0, a.1, a.2, a.3, a.4.0 (omega (arith, le, slice_get_within s0 i seat s)));
-}
 
 -- the first free place is free
 first_free : (seats : List Seat) (i : ℕ) (seat : Seat) → position is_free seats ≡ Some i → slice_get seats i ≡ Some seat → is_free seat ≡ true

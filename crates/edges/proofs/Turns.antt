@@ -102,10 +102,6 @@ settled_numbered now l m s0 s1 r0 r1 rises went = all_bounded l m s0 s1 r0 r1 (a
 pub let_in_numbered : (now l m : ℕ) (s0 s1 : List Seat) (r0 r1 : List Room) → l ≤ m → AreAllChanged (λ _. IsLetIn now l m) s0 r0 s1 r1 → AreNumberedUpTo l s0 r0 → AreNumberedUpTo m s1 r1
 let_in_numbered now l m s0 s1 r0 r1 rises came = all_bounded l m s0 s1 r0 r1 (also (λ _. IsLetIn now l m) (λ _. Bounded l m) s0 s1 r0 r1 (λ i s t p q one. let_in_bounded now l m s t p q rises one) came)
 
--- all were read
-pub read_of : (l : ℕ) (seats : List Seat) (rooms : List Room) → AreNumberedUpTo l seats rooms → All WasRead seats
-read_of l seats rooms (long, all) = λ k d lt. (all k d lt).1.0
-
 -- where a wait is broken
 pub woken_numbered : (l n : ℕ) (s0 w d : List Seat) (rooms : List Room) → n ≡ length s0 → d ≡ s0 → AllZip MayBeWoken d w → AreNumberedUpTo l s0 rooms → AreNumberedUpTo l (put n w s0) rooms
 woken_numbered l n s0 w d rooms n-is d-is same =

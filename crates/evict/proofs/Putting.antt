@@ -99,13 +99,6 @@ IsPutting-up m market start lines g k c p r put done in_p in_c above pool down s
           | inr ne ↦ rw (ne_eqb o c ne) refl
         ])
 
--- at the end: what node n refused is refused by it or a node above it
-pub IsPutting-end : (m : Market) (start lines : List MapLine) (g k c r : ℕ) → IsPutting m start lines g k c r → ((n : ℕ) → n < length m.nodes → units_of (counts_at m n) lines ≤ capacity_of m n)
-    → (n : ℕ) → n < length m.nodes → (key : Key) → IsSaturated m start n key
-    → (o : ℕ) × (is_under m o n ≡ true) × ((o < length m.nodes → (units_of (counts_at m o) lines ≡ capacity_of m o) × (units_of (under_worse m o key) lines ≡ 0)))
-IsPutting-end m start lines g k c r put fits n l key full =
-    let w = put.kept n l key full in (w.0, w.1, λ there. full-IsSaturated m lines w.0 key (fits w.0 there) w.2)
-
 -- at the start: units have come at the pool of (g, k)
 pub IsPutting-start : (m : Market) → IsMarket m → (start lines : List MapLine) (g k units : ℕ) → Puts start lines g k units → pool_of m g k < length m.nodes
     → ((n : ℕ) → n < length m.nodes → units_of (counts_at m n) start ≤ capacity_of m n) → IsPutting m start lines g k (pool_of m g k) units

@@ -89,7 +89,8 @@ fn is_refused(instance: &Instance, held: &Held, tree: &Tree, offer: Offer) -> bo
     requires offer { IsOffer instance.now offer.group.0 offer.place }
     requires shape { IsSameShape held.now.market instance.now }
     requires agrees { AgreesWith instance.now held.now.lines tree.now }
-    ensures { result ≡ is_some (refusing_node instance.now held.now.lines offer.group.0 offer.place) }
+    ensures { result ≡ is_some (refusing_node instance.now held.now.lines offer.group.0
+        offer.place) }
 {
     refusing_node(instance, held, tree, offer).is_some()
 }

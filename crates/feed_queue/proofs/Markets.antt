@@ -32,11 +32,3 @@ batch_fits groups nodes m changes h = go (length m.groups == groups) (length m.n
     go true true g n k = All-weaker (IsChange m) (IsAmong groups nodes) (is_among groups nodes m (g refl) (n refl)) changes k
     go true false g n k = All-weaker (IsChange (record { groups = []; nodes = [] })) (IsAmong groups nodes) (no_change groups nodes) changes k
     go false b g n k = All-weaker (IsChange (record { groups = []; nodes = [] })) (IsAmong groups nodes) (no_change groups nodes) changes k
-
-change_is : (groups nodes : ℕ) (m : Market) → length m.groups ≡ groups → length m.nodes ≡ nodes → (change : Change) → IsAmong groups nodes change → IsInRange change → IsChange m change
-change_is groups nodes m g n (Demand group demand) h r = (subst (λ k. group.0 < k) (sym g) h, r.0, r.1)
-change_is groups nodes m g n (Capacity node capacity) h r = (subst (λ k. node.0 < k) (sym n) h, r)
-
--- a batch for so many groups and nodes, whose numbers are in their ranges, is one of any instance that has them
-pub batch_is : (groups nodes : ℕ) (m : Market) (changes : List Change) → length m.groups ≡ groups → length m.nodes ≡ nodes → All (IsAmong groups nodes) changes → All IsInRange changes → IsBatch m changes
-batch_is groups nodes m changes g n among ranged = λ k d at. change_is groups nodes m g n _ (among k d at) (ranged k d at)

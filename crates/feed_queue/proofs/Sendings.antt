@@ -32,21 +32,6 @@ module _ {R N : Type 0} where
 pub room_left : {R N : Type 0} (a b : Sender R N) → a.feeder.now.sent ≡ [] → Keeps a b → length b.feeder.now.sent < 2 ^ 64 - 1
 room_left a b none keeps = let few : length b.feeder.now.sent ≤ 2 ^ 64 - 2 = keeps.3 (omega (arith, ap length none)) in omega (arith, few)
 
--- the last of a list is one
-pub last_end : (us vs : List What) (w v : What) → us ++ w ∷ [] ≡ vs ++ v ∷ [] → w ≡ v
-last_end [] [] w v e = cc
-last_end [] (y ∷ []) w v e = cc
-last_end [] (y ∷ z ∷ vs) w v e = cc
-last_end (x ∷ []) [] w v e = cc
-last_end (x ∷ z ∷ us) [] w v e = cc
-last_end (x ∷ us) (y ∷ vs) w v e = last_end us vs w v (rest x y (us ++ w ∷ []) (vs ++ v ∷ []) e)
-  where
-    rest : (x y : What) (xs ys : List What) → x ∷ xs ≡ y ∷ ys → xs ≡ ys
-    rest x y xs ys e = cc
-
-end_is : (end fault : FeedEnd) → what.End end ≡ what.End fault → end ≡ fault
-end_is end fault e = cc
-
 -- a run whose end was sent too
 pub has_sent_run : (t : Plan) (turns : ℕ) (end : FeedEnd) (fed then : Option Fed) (none whats sent : List What) → none ≡ [] → IsRun Adds Breaks t turns end fed then none whats → end ≢ ends.SinkFault → sent ≡ whats ++ what.End end ∷ [] → HasSent t turns fed then sent
 has_sent_run t turns end fed then none whats sent is run whole sent_is = unfold HasSent in inl (end, record { whats = whats; run = subst (λ xs. IsRun Adds Breaks t turns end fed then xs whats) is run; whole = whole; sent_is = sent_is })

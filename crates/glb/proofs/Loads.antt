@@ -129,14 +129,6 @@ says_here kind name t a b says = (says.0, given_here name kind.limit says.0 a b 
 refused_here : {T : Type 0} (kind : Kind T) (name : List ℕ) (due : Outcome) (a b : Option Shelved) → IsFaulty kind name a b due → IsRefused kind (files_between a b) name due
 refused_here kind name due a b h = (h.0, h.1, given_here name kind.limit h.0 a b h.2, h.3, h.4)
 
--- the same of a file that was read
-pub read_says : {X T : Type 0} (kind : Kind T) (see : X → T) (name : List ℕ) (before after : DeviceState Shelved) (x : X) → IsReading kind see name before after (Ok x) → Says kind (files_between before.past after.past) name (see x)
-read_says kind see name before after x r = says_here kind name (see x) before.past after.past r.said
-
-pub read_refused : {X T : Type 0} (kind : Kind T) (see : X → T) (name : List ℕ) (before after : DeviceState Shelved) (s : Stop) → IsReading kind see name before after (Err s) → StopsBy (IsRefused kind (files_between before.past after.past) name) s
-read_refused kind see name before after s r =
-    stops_weaker (IsFaulty kind name before.past after.past) (IsRefused kind (files_between before.past after.past) name) s (λ due h. refused_here kind name due before.past after.past h) r.said
-
 -- the loads that follow on a file that says something
 behind_said : {T : Type 0} (kind : Kind T) (next : T → List Load → List DueLoad) (that : T) (bytes : List ℕ) (made : List Load)
     → said kind bytes ≡ Ok that → loads_behind (Some (said kind bytes)) (λ t. next t made) ≡ next that made
@@ -238,14 +230,6 @@ always_ends P (Ok report) h = h
 always_ends P (Err (stop.Refused text)) h = h
 always_ends P (Err stop.SourceFault) h = tt
 always_ends P (Err stop.NoMemory) h = tt
-
--- the load of a file that was read
-pub read_loaded : {X T : Type 0} (kind : Kind T) (see : X → T) (name : List ℕ) (before after : DeviceState Shelved) (x : X) → IsReading kind see name before after (Ok x) → BothTell before.past after.past (AreLoaded (only kind name))
-read_loaded kind see name before after x r = loaded_only kind name r.said.0 before.past after.past r.said.1
-
-pub refused_loaded : {X T : Type 0} (kind : Kind T) (see : X → T) (name : List ℕ) (before after : DeviceState Shelved) (s : Stop) → IsReading kind see name before after (Err s) → StopsBy (λ _. BothTell before.past after.past (AreLoaded (only kind name))) s
-refused_loaded kind see name before after s r =
-    stops_weaker (IsFaulty kind name before.past after.past) (λ _. BothTell before.past after.past (AreLoaded (only kind name))) s (λ due h. loaded_only kind name h.0 before.past after.past h.2) r.said
 
 -- the end of a command behind its last file
 pub last_ends : {X T : Type 0} (kind : Kind T) (see : X → T) (name : List ℕ) (Next : T → Outcome → Type 0) (before after : DeviceState Shelved) (x : X) (e : Result Report Stop) → IsReading kind see name before after (Ok x)

@@ -121,13 +121,6 @@ all_stand_more front then behind h =
     let f : DeviceState Fed → ℕ = λ x. x.faults in
     map-append f then behind ∙ ap (λ (ns : List ℕ). ns ++ map f behind) h ∙ sym (map-append f front behind)
 
--- feeds behind those that were opened; the names behind those under which feeds were opened do not matter
-named_past : (name : List ℕ) (names : List (List ℕ)) (k : ℕ) (a c b : List (DeviceState Fed)) → k < 1 → AreNamed (name ∷ []) (then_failed k) a c → AreNamed (name ∷ names) (then_failed k) (a ++ b) (c ++ b)
-named_past name names zero (x ∷ a) (y ∷ c) b lt h = (h.0, ap (λ (xs : List (DeviceState Fed)). xs ++ b) h.1)
-named_past name names zero [] c b lt h = absurd h
-named_past name names zero (x ∷ a) [] b lt h = absurd h
-named_past name names (suc k) a c b lt h = absurd (omega (arith, lt))
-
 -- one feed was opened, and then others
 named_then : (name : List ℕ) (names : List (List ℕ)) (rs : List Opening) (a c b d : List (DeviceState Fed)) → length a ≡ 1 → AreNamed (name ∷ []) (opening.Ready ∷ []) a c → AreNamed names rs b d → AreNamed (name ∷ names) (opening.Ready ∷ rs) (a ++ b) (c ++ d)
 named_then name names rs (x ∷ []) (y ∷ c) b d one h k = (h.0, subst (λ (xs : List (DeviceState Fed)). AreNamed names rs b (xs ++ d)) (sym h.1) k)
@@ -146,12 +139,6 @@ pub named_on : {N : Type 0} (f : N → DeviceState Fed) (name : List ℕ) (names
     → HasNamed (name ∷ names) r (map f xs) (map f (c ++ d))
 named_on f name names r xs a b c d is one h k =
     rw (is, map-append f a b, map-append f c d) (named_more name names r (map f a) (map f c) (map f b) (map f d) (length-map a f ∙ one) h k)
-
--- the first feed did not open
-pub named_failed : {N : Type 0} (f : N → DeviceState Fed) (name : List ℕ) (names : List (List ℕ)) (xs a b c : List N) → xs ≡ a ++ b
-    → HasNamed (name ∷ []) opening.Failed (map f a) (map f c) → HasNamed (name ∷ names) opening.Failed (map f xs) (map f (c ++ b))
-named_failed f name names xs a b c is (k, lt, are) =
-    rw (is, map-append f a b, map-append f c b) (k, omega (arith, lt), named_past name names k (map f a) (map f c) (map f b) lt are)
 
 -- where no name is given, none of a list is among the first
 pub none_named : {N : Type 0} (names : List (List ℕ)) (front : List N) → length front ≡ length names → names ≡ [] → front ≡ []

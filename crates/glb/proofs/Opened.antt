@@ -8,13 +8,6 @@ use Rattle.drive.specs.Done.{LaneTold}
 use Rattle.glb.specs.Serve.{AreOpened, all_ready, then_failed}
 use Rattle.glb.specs.Starting.{HasOpened}
 
--- lanes behind those that were opened
-opened_more : (listen : Listen) (rs : List Opening) (a c b : List LaneTold) → AreOpened listen rs a c → AreOpened listen rs (a ++ b) (c ++ b)
-opened_more listen [] a c b h = ap (λ xs. xs ++ b) h
-opened_more listen (r ∷ rs) (x ∷ a) (y ∷ c) b h = (h.0, opened_more listen rs a c b h.1)
-opened_more listen (r ∷ rs) [] c b h = absurd h
-opened_more listen (r ∷ rs) (x ∷ a) [] b h = absurd h
-
 -- one lane was opened, and then others
 then_opened : (listen : Listen) (rs : List Opening) (a c b d : List LaneTold) → length a ≡ 1 → AreOpened listen (opening.Ready ∷ []) a c → AreOpened listen rs b d → AreOpened listen (opening.Ready ∷ rs) (a ++ b) (c ++ d)
 then_opened listen rs (x ∷ []) (y ∷ c) b d one h k = (h.0, subst (λ xs. AreOpened listen rs b (xs ++ d)) (sym h.1) k)

@@ -34,11 +34,6 @@ given_of name limit bytes octets x y is noted holds held = record {
   held = subst (λ (o : Option (List ℕ)). IfSome x.holds (λ held. IfSome o (λ bs. held name ≡ Some bs))) is held;
 }
 
--- a file that was loaded gave its octets
-pub loaded_given : (s t : Option Shelved) (name : List ℕ) (limit : ℕ) (bytes : Vec ℕ Global) → BothTell s t (IsLoad name limit (Ok bytes)) → length bytes.items ≤ limit → AreBytes s t name limit bytes.items
-loaded_given s t name limit bytes load le =
-    (tell_weaker (IsLoad name limit (Ok bytes)) (IsGiven name limit bytes.items) s t (λ x y h. given_of name limit bytes.items h.octets x y h.answer.0 h.noted h.holds h.held) load, le)
-
 -- one that is too long gave more than the limit
 long_bytes : (s t : Option Shelved) (name : List ℕ) (limit : ℕ) → BothTell s t (IsLoad name limit (Err TooLong)) → (bytes : List ℕ) × BothTell s t (IsGiven name limit bytes) × (limit < length bytes)
 long_bytes None None name limit h = (replicate (suc limit) 0, tt, omega (arith, length-replicate {A = ℕ} (suc limit) 0))
@@ -58,45 +53,6 @@ long_refused s t name limit words (Ok v) e load made ends =
     let long = long_bytes s t name limit load in
     stops_weaker (λ due. due ≡ refused v.items) (IsTooLong s t name limit words) e (λ due h. (long.0, long.1, long.2, h ∙ ap refused made)) ends
 long_refused s t name limit words (Err f) e load made ends = stops_weaker (λ due. ⊥) (IsTooLong s t name limit words) e (λ due h. absurd h) ends
-
--- of a load, whatever it answers, the first of what is due was made
-one_held : (o : Option (List ℕ → Option (List ℕ))) (load : Load) → IfSome o (λ held. IfSome load.octets (λ bytes. held load.name ≡ Some bytes)) → IfSome o (λ held. All (λ (load : Load). IfSome load.octets (λ bytes. held load.name ≡ Some bytes)) (load ∷ []))
-one_held None load h = tt
-one_held (Some held) load h = All-cons (λ (load : Load). IfSome load.octets (λ bytes. held load.name ≡ Some bytes)) load [] h (none_held (Some held))
-
-one_made : (name : List ℕ) (limit : ℕ) (octets : Option (List ℕ)) (x y : Shelved) → y.loads ≡ x.loads ++ record { name = name; limit = limit; octets = octets } ∷ [] → y.holds ≡ x.holds
-    → IfSome x.holds (λ held. IfSome octets (λ bs. held name ≡ Some bs)) → AreLoadsOf (λ _. record { name = name; limit = limit } ∷ []) x y
-one_made name limit octets x y noted holds held =
-    let a : Load = record { name = name; limit = limit; octets = octets } in
-    (a ∷ [], record { loads = noted; holds = holds; held = one_held x.holds a held }, (1, refl))
-
-pub load_made : (s t : Option Shelved) (name : List ℕ) (limit : ℕ) (result : Result (Vec ℕ Global) LoadFault) → BothTell s t (IsLoad name limit result) → BothTell s t (AreLoadsOf (λ _. record { name = name; limit = limit } ∷ []))
-load_made s t name limit result = tell_weaker (IsLoad name limit result) (AreLoadsOf (λ _. record { name = name; limit = limit } ∷ [])) s t (λ x y h. go result x y h.octets h.noted h.holds h.held)
-  where
-    go : (result : Result (Vec ℕ Global) LoadFault) (x y : Shelved) (octets : Option (List ℕ)) → IsNoted (record { name = name; limit = limit; octets = octets }) x.loads y.loads result → y.holds ≡ x.holds
-        → IfSome x.holds (λ held. IfSome octets (λ bs. held name ≡ Some bs)) → AreLoadsOf (λ _. record { name = name; limit = limit } ∷ []) x y
-    go (Ok bytes) x y octets noted holds held = one_made name limit octets x y noted holds held
-    go (Err TooLong) x y octets noted holds held = one_made name limit octets x y noted holds held
-    go (Err load.NoMemory) x y octets noted holds held = one_made name limit octets x y noted holds held
-    go (Err load.Failed) x y octets (zero, noted) holds held = none_made (λ _. record { name = name; limit = limit } ∷ []) x y (noted ∙ append-nil x.loads) holds
-    go (Err load.Failed) x y octets (suc k, noted) holds held = one_made name limit octets x y (noted ∙ ap (λ (ls : List Load). x.loads ++ (record { name = name; limit = limit; octets = octets }) ∷ ls) (take-nil k)) holds held
-
-fits : {T : Type 0} (kind : Kind T) (bytes : List ℕ) → length bytes ≤ kind.limit → said kind bytes ≡ kind.reading bytes
-fits kind bytes le = rw (le-ltb kind.limit (length bytes) le) refl
-
-too_long : {T : Type 0} (kind : Kind T) (bytes : List ℕ) → kind.limit < length bytes → said kind bytes ≡ Err kind.too_long
-too_long kind bytes lt = rw (lt-ltb kind.limit (length bytes) lt) refl
-
--- a file that is too long is refused
-pub refused_long : {T : Type 0} (kind : Kind T) (s t : Option Shelved) (name : List ℕ) (e : Stop) → StopsBy (IsTooLong s t name kind.limit kind.too_long) e → StopsBy (IsFaulty kind name s t) e
-refused_long kind s t name e = stops_weaker (IsTooLong s t name kind.limit kind.too_long) (IsFaulty kind name s t) e (λ due h. (h.0, kind.too_long, h.1, too_long kind h.0 h.2, h.3))
-
--- what is read of the octets that a file gave is what the file says
-pub parsed : {X T : Type 0} (see : X → T) (kind : Kind T) (s t : Option Shelved) (name bytes : List ℕ) (r : Result X Stop) → AreBytes s t name kind.limit bytes
-    → MatchResult r (λ x. kind.reading bytes ≡ Ok (see x)) (StopsBy (IsRefusedBy (kind.reading bytes))) → MatchResult r (λ x. IsSaidBy kind name s t (see x)) (StopsBy (IsFaulty kind name s t))
-parsed see kind s t name bytes (Ok x) are h = (bytes, are.0, fits kind bytes are.1 ∙ h)
-parsed see kind s t name bytes (Err e) are h =
-    stops_weaker (IsRefusedBy (kind.reading bytes)) (IsFaulty kind name s t) e (λ due r. (bytes, r.0, are.0, fits kind bytes are.1 ∙ r.1, r.2)) h
 
 -- what was read behind some loads was read in the run that they began
 reads_wider : {T : Type 0} (kind : Kind T) (a b c : Option Shelved) (before later : List Load → List DueLoad) → BothTell a b (AreLoadsOf before) → BothTell b c (AreLoadsOf later)

@@ -94,10 +94,6 @@ found {X = X} test (z ∷ zs) x h = by (λ e. found test zs x e) (test z) refl h
     by rest true is e = let same : z ≡ x = same_Some z x e in (inl same, subst (λ (v : X). test v ≡ true) same is)
     by rest false is e = let r = rest e in (inr r.0, r.1)
 
-pub any_in : (xs : List ℕ) (n : ℕ) → list_any (λ x. x == n) xs ≡ true → In xs n
-any_in [] n h = absurd (cc)
-any_in (z ∷ zs) n h = elim (or_cases _ _ h) [ inl e ↦ inl (eqb-true z n e) | inr r ↦ inr (any_in zs n r) ]
-
 pub all_in : {X : Type 0} (test : X → Bool) (xs : List X) (x : X) → list_all test xs ≡ true → In xs x → test x ≡ true
 all_in test [] x h i = absurd i
 all_in test (z ∷ zs) x h (inl e) = subst (λ v. test v ≡ true) e (and_parts _ _ h).0

@@ -12,17 +12,6 @@ both : {P Q P' Q' : Type 0} (b : Bool) → (P → P') → (Q → Q') → MatchBo
 both true f g x = f x
 both false f g x = g x
 
--- such a run is a lane run
-run_of : {V : Type 0} (a : Answers V) (h : List V) (w n floor n' floor' : ℕ) (taken : List Entry) (tries : List Try) → IsRunTo a h w n floor taken tries n' floor' → IsLaneRun a h w n floor taken tries
-run_of a h w n floor n' floor' [] [] r = tt
-run_of a h w n floor n' floor' [] (s ∷ tries) r = absurd r
-run_of a h w n floor n' floor' (e ∷ taken) [] r = (r.0, r.1, run_of a h w (following n) e.known n' floor' taken [] r.2)
-run_of a h w n floor n' floor' (e ∷ taken) (s ∷ tries) r = (
-  r.0,
-  both (a.silent e.packet.octets) (λ (q : IsRunTo a h w (following n) e.known taken (s ∷ tries) n' floor'). run_of a h w (following n) e.known n' floor' taken (s ∷ tries) q)
-      (λ (q : IsTryOf a h w n e s × IsRunTo a h w (following n) s.serial taken tries n' floor'). (q.0, run_of a h w (following n) s.serial n' floor' taken tries q.1)) r.1,
-)
-
 try_longer : {V : Type 0} (a : Answers V) (h h' : List V) (w n : ℕ) (e : Entry) (s : Try) → IsPrefix h h' → IsTryOf a h w n e s → IsTryOf a h' w n e s
 try_longer a h h' w n e s p q = record { to = q.to; fresh = q.fresh; version = (q.version.0, prefix_get h h' s.serial q.version.0 p q.version.1, q.version.2) }
 
@@ -125,7 +114,3 @@ step_kept {V = V} a F first (take lane d n way) m m' s k =
 pub all_kept : {V : Type 0} (a : Answers V) (F : List V → V → Type 0) (first : V) (events : List (Event V)) (m m' : Machine V) → IsTaken a F events m m' → IsLawful a F first m → IsLawful a F first m'
 all_kept {V = V} a F first [] m m' t k = subst (λ (x : Machine V). IsLawful a F first x) (sym t) k
 all_kept a F first (e ∷ events) m m' t k = all_kept a F first events t.0 m' t.2 (step_kept a F first e m t.0 t.1 k)
-
--- the lanes of a machine that keeps this are lane runs
-pub kept_runs : {V : Type 0} (a : Answers V) (h : List V) (w : ℕ) (l : LaneState) → IsRunTo a h w 0 0 l.taken l.tries l.count l.seen → IsLaneRun a h w 0 0 l.taken l.tries
-kept_runs a h w l r = run_of a h w 0 0 l.count l.seen l.taken l.tries r

@@ -174,9 +174,3 @@ no_event (y ∷ before) behind x is = cc is
 
 pub minded_none : {V : Type 0} (lane : ℕ) (l : LaneState) → IsMinded {V = V} lane [] l l
 minded_none lane l = record { new = []; taken = sym (append-nil l.taken); packets = refl; entries = λ before behind d s way is. absurd (no_event before behind (take lane d s way) is); after = mindful_none lane l.seen }
-
--- Whatever the machine takes, each lane minds it.
-pub taken_minded : {V : Type 0} (a : Answers V) (F : List V → V → Type 0) (lane : ℕ) (events : List (Event V)) (m m' : Machine V) → IsTaken a F events m m' → IsMinded lane events (slice_index_or m.lanes lane fresh) (slice_index_or m'.lanes lane fresh)
-taken_minded {V = V} a F lane [] m m' t = subst (λ (k : Machine V). IsMinded {V = V} lane [] (slice_index_or m.lanes lane fresh) (slice_index_or k.lanes lane fresh)) (sym t) (minded_none lane (slice_index_or m.lanes lane fresh))
-taken_minded a F lane (e ∷ events) m m' t =
-    minded_more lane e events (slice_index_or m.lanes lane fresh) (slice_index_or t.0.lanes lane fresh) (slice_index_or m'.lanes lane fresh) (step_heard a F lane e m t.0 t.1) (taken_minded a F lane events t.0 m' t.2)

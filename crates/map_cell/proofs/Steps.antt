@@ -19,9 +19,6 @@ more b views w h ok j u e = ⊎_elim (λ (t : get_elem? views j ≡ some u). h j
 pub admits : (x : CopyState) (views : List Tag) → Holds x views → Holds x (views ++ unknown ∷ [])
 admits x views h = record { book = more (tag_of x.book) views unknown h.book (λ e. absurd cc); sealed = h.sealed }
 
-pub opens : (x : CopyState) → IsSealed x.history x.version → Holds x (unknown ∷ [])
-opens x s = record { book = more (tag_of x.book) [] unknown (λ seat v e. absurd (some-ne-none v (sym e))) (λ e. absurd cc); sealed = s }
-
 pub looks : (x : CopyState) (seat : ℕ) (v : Tag) (views : List Tag) → Holds x views → get_elem? views seat ≡ some v
     → (w : Tag) × Holds x (set views seat w) × ((v.known ≡ true → v ≡ tag_of x.book) × IsSealed x.history x.version × (w ≡ v))
 looks x seat v views h at = (v, record { book = put (tag_of x.book) views seat v h.book (h.book seat v at); sealed = h.sealed }, (h.book seat v at, h.sealed, refl))

@@ -51,12 +51,6 @@ pub ends_one : (m : Market) (n j : ℕ) (old a b : Standing) → IsReady m old �
 ends_one m n j old a b ready to_a to_b stable_a stable_b =
     best_below_one m ready.market old.lines old.pointers a.lines b.lines (best_below m n old a ready to_a stable_a) (best_below m j old b ready to_b stable_b)
 
--- with the same names
-pub ends_named : (m : Market) (n j : ℕ) (old a b : Standing) (of_a of_b : List NameLine) → IsReady m old → AreProposals m n old a → AreProposals m j old b → IsGood m a.lines of_a → IsGood m b.lines of_b → (a.lines ≡ b.lines) × (of_a ≡ of_b)
-ends_named m n j old a b of_a of_b ready to_a to_b good_a good_b =
-    let e = ends_one m n j old a b ready to_a to_b good_a.stable good_b.stable in
-    (e, good_a.named ∙ ap (names_of m) e ∙ sym good_b.named)
-
 -- the group-best map of an instance is one
 pub group_best_one : (m : Market) → IsMarket m → (a b : List MapLine) (of_a of_b : List NameLine) → IsGood m a of_a → IsGood m b of_b → IsGroupBest m a → IsGroupBest m b → (a ≡ b) × (of_a ≡ of_b)
 group_best_one m market a b of_a of_b good_a good_b best_a best_b =

@@ -99,29 +99,6 @@ has_nearest m market limits limited lines right g k line = go (find full (path m
         let r = refused_at m market lines right g k line.offer line.wanted (omega (arith, line.room, limited g k line.offer)) in
         absurd (not_found full (path m (pool_of m g k)) r.0 e r.1.on (eq-eqb (load m lines r.0) (capacity_of m r.0) r.1.full))
 
--- the best of those that are the best at nodes of a pool's path is next in line there
-pub next_from : (m : Market) → IsMarket m → (limits : ℕ → ℕ → ℕ) → ((g k : ℕ) → IsOffer m g k → limits g k ≤ limit_of m g k) → (lines : List MapLine) → IsRightMap m lines → (pool n g k : ℕ) → pool < length m.nodes → is_under m n pool ≡ true → IsBestAt m limits lines n g k
-    → ((c h j : ℕ) → is_under m c pool ≡ true → IsBestAt m limits lines c h j → key_le (key_of m g k) (key_of m h j) ≡ true) → IsNextInLine m limits lines pool g k
-next_from m market limits limited lines right pool n g k there under at least = record {
-  in_line = at.in_line;
-  room = room_from m market lines pool n g k there at.near under;
-  best = λ h j line room. elim (cases_Bool (key_le (key_of m g k) (key_of m h j))) [
-    | inl e ↦ e
-    | inr e ↦
-        let near = has_nearest m market limits limited lines right h j line in
-        absurd (no_first (size_of m) (is_higher m) (higher_order m) (λ i o. IsInLine m limits lines i o × IsFirstFull m lines (pool_of m i o) near.0) (λ i o x. counted m market i o x.0.offer) (λ i o x first.
-        let best : IsBestAt m limits lines near.0 i o = record { in_line = x.0; near = x.1; best = λ a b in_line also. not-false (key_le (key_of m i o) (key_of m a b)) (first a b (in_line, also)) } in
-        false≢true (sym e ∙ key_le_trans (key_of m g k) (key_of m i o) (key_of m h j) (least near.0 i o (room_at m lines pool near.0 h j near.1 room) best) (not-false (key_le (key_of m i o) (key_of m h j)) (first h j (line, near.1)))))
-        h j (line, near.1))
-  ];
-}
-
--- where no node of the path has an offer in line, nobody is next
-pub nobody_next : (m : Market) → IsMarket m → (limits : ℕ → ℕ → ℕ) → ((g k : ℕ) → IsOffer m g k → limits g k ≤ limit_of m g k) → (lines : List MapLine) → IsRightMap m lines → (pool : ℕ) → ((c h j : ℕ) → is_under m c pool ≡ true → IsInLine m limits lines h j → IsFirstFull m lines (pool_of m h j) c → ⊥) → (g k : ℕ) → IsNextInLine m limits lines pool g k → ⊥
-nobody_next m market limits limited lines right pool none g k next =
-    let near = has_nearest m market limits limited lines right g k next.in_line in
-    none near.0 g k (room_at m lines pool near.0 g k near.1 next.room) next.in_line near.1
-
 -- and one offer alone is next
 pub next_one : (m : Market) → IsMarket m → (limits : ℕ → ℕ → ℕ) (lines : List MapLine) (pool g k h j : ℕ) → IsNextInLine m limits lines pool g k → IsNextInLine m limits lines pool h j → (g ≡ h) × (k ≡ j)
 next_one m market limits lines pool g k h j x y = offer_one m market g k h j x.in_line.offer y.in_line.offer (x.best h j y.in_line y.room) (y.best g k x.in_line x.room)

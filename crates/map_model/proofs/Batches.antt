@@ -69,10 +69,6 @@ step : (f : Change → Option ℕ) (cs : List Change) (c : Change) (this : Bool)
 step f cs c true d was mid new is now before = now ∙ sym (ap (λ o. unwrap_or o was) (last-this f cs c d is))
 step f cs c false d was mid new is now before = now ∙ before ∙ sym (ap (λ o. unwrap_or o was) (last-other f cs c is))
 
--- no change
-pub IsApplied-none : (m : Market) → IsApplied m [] m
-IsApplied-none m = record { shape = shape_itself m; demands = λ g l. refl; capacities = λ n l. refl }
-
 -- a change of a demand after others
 pub IsApplied-demand : (old mid : Market) (cs : List Change) (g : GroupId) (d : ℕ) → IsApplied old cs mid → g.0 < length old.groups → IsApplied old (cs ++ Demand g d ∷ []) (with_demand mid g.0 d)
 IsApplied-demand old mid cs g d applied within =

@@ -30,7 +30,7 @@ impl Model for Marks {
 impl Marks {
     /// No node of so many is marked.
     pub fn none(alloc: Global, count: u32) -> Result<Marks, NoMemory>
-        ensures { IfOk result (λ marks. marks ≡ record { on = replicate count false; pending = [] }) }
+        ensures { IfOk result (λ made. made ≡ record { on = replicate count false; pending = [] }) }
     {
         Ok(Marks {
             on: vec![in alloc; false; count as usize]?,

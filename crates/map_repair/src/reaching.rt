@@ -144,7 +144,8 @@ fn look_at(
     requires size { length marks.old.on ≡ length followed.now.old.now.nodes }
     requires groups { length done.old ≡ length followed.now.old.now.groups }
     requires root { root.0 < length followed.now.old.now.nodes }
-    requires done { AreDone followed.now.old.now followed.now.state.now.lines marks.old.on done.old }
+    requires done { AreDone followed.now.old.now followed.now.state.now.lines
+        marks.old.on done.old }
     requires ahead { ahead.old ≤ length followed.now.old.now.nodes }
     requires marked { AreMarkedTo followed.now.old.now marks.old.on ahead.old }
     ensures marking { OnOk result (IsMarking marks.old marks.new) }

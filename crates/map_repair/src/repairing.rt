@@ -100,7 +100,8 @@ pub fn repair<L>(
     requires good { IsGood old.now map.now.lines.items map.now.names.items }
     requires shape { IsSameShape old.now new.now }
     ensures good { IfOk result (λ made. IsGood new.now made.lines.items made.names.items) }
-    ensures kept { IfOk result (λ made. IsKept old.now map.now.lines.items new.now made.lines.items) }
+    ensures kept { IfOk result
+        (λ made. IsKept old.now map.now.lines.items new.now made.lines.items) }
     ensures local { IfOk result (λ made. IsLocal old.now map.now.lines.items new.now
         made.lines.items) }
     ensures determined { IfOk result (λ made. IsRepairedOf old.now map.now.lines.items new.now

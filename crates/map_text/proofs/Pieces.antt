@@ -17,34 +17,6 @@ use Rattle.map_text.specs.declared.cutting.Cut.{Cut}
 pub in_two : {X : Type 0} (row : X → List ℕ) (xs : List X) (n : ℕ) → flat_map row xs ≡ flat_map row (take n xs) ++ flat_map row (drop n xs)
 in_two row xs n = ap (flat_map row) (sym (take-append-drop n xs)) ∙ flat_map-append row (take n xs) (drop n xs)
 
--- the octets of a cut are those of its rows
-pub own_text : {X : Type 0} (row : X → List ℕ) (text : List ℕ) (xs : List X) (n k : ℕ) → text ≡ flat_map row xs → k ≡ length (flat_map row (take n xs)) → take k text ≡ flat_map row (take n xs)
-own_text row text xs n k is as_many =
-    ap (λ j. take j text) as_many ∙ ap (take (length (flat_map row (take n xs)))) (is ∙ in_two row xs n) ∙ take-append_seam (flat_map row (take n xs)) (flat_map row (drop n xs))
-
--- and those behind it the rows of the rest
-pub rest_text : {X : Type 0} (row : X → List ℕ) (text : List ℕ) (xs : List X) (n k : ℕ) → text ≡ flat_map row xs → k ≡ length (flat_map row (take n xs)) → drop k text ≡ flat_map row (drop n xs)
-rest_text row text xs n k is as_many =
-    ap (λ j. drop j text) as_many ∙ ap (drop (length (flat_map row (take n xs)))) (is ∙ in_two row xs n) ∙ drop-append_seam (flat_map row (take n xs)) (flat_map row (drop n xs))
-
--- a text is at least as long as its first rows
-pub no_longer : {X : Type 0} (row : X → List ℕ) (text : List ℕ) (xs : List X) (n k : ℕ) → text ≡ flat_map row xs → k ≡ length (flat_map row (take n xs)) → k ≤ length text
-no_longer row text xs n k is as_many =
-    let whole : length text ≡ length (flat_map row (take n xs) ++ flat_map row (drop n xs)) = ap length (is ∙ in_two row xs n) in
-    omega (arith, as_many, whole, length-append (flat_map row (take n xs)) (flat_map row (drop n xs)))
-
--- the text of a piece, and of all behind it, where the cut is at so many octets and rows or where there are no more
-pub cut_in_two : {X : Type 0} (row : X → List ℕ) (text : List ℕ) (xs : List X) (c : Cut) (cs all : List Cut) (k n : ℕ) → all ≡ c ∷ cs → (c.octets ≤ length text → k ≡ c.octets) → (c.rows ≤ length xs → n ≡ c.rows) → IsTextOf row text xs all
-    → IsTextOf row (take k text) (take n xs) [] × IsTextOf row (drop k text) (drop n xs) cs
-cut_in_two row text xs c cs all k n is octets rows whole =
-    let cuts : AreCuts row xs (c ∷ cs) = subst (AreCuts row xs) is whole.cuts in
-    let within : c.octets ≤ length text = no_longer row text xs c.rows c.octets whole.text cuts.1 in
-    let at : n ≡ c.rows = rows cuts.0 in
-    let as_many : k ≡ length (flat_map row (take n xs)) = octets within ∙ cuts.1 ∙ ap (λ m. length (flat_map row (take m xs))) (sym at) in (
-      record { text = own_text row text xs n k whole.text as_many; cuts = tt },
-      record { text = rest_text row text xs n k whole.text as_many; cuts = subst (λ m. AreCuts row (drop m xs) cs) (sym at) cuts.2 },
-    )
-
 -- what was written with what is to come is all, one piece further
 pub piece_written : {X : Type 0} (row : X → List ℕ) (first now new : List ℕ) (all rest own behind : List X) (n : ℕ) → now ++ flat_map row rest ≡ first ++ flat_map row all → own ≡ take n rest → behind ≡ drop n rest
     → new ≡ now ++ flat_map row own → new ++ flat_map row behind ≡ first ++ flat_map row all

@@ -10,12 +10,6 @@ use Rattle.outside.specs.declared.sink.Put.TheVariants as put
 use Rattle.demand_feed.proofs.Tellings.{concat_end, one_more, tell_trans}
 use Rattle.mapper.specs.Scenes.{IsCutBehind, IsPrinted}
 
-pub paced_trans : (xs ys : List PaceCall) (a b c : Option (List PaceCall)) → IsPaced xs a b → IsPaced ys b c → IsPaced (xs ++ ys) a c
-paced_trans xs ys a b None r s = tt
-paced_trans xs ys a None (Some z) r s = absurd s
-paced_trans xs ys None (Some y) (Some z) r s = absurd r
-paced_trans xs ys (Some x) (Some y) (Some z) r s = s ∙ ap (λ l. l ++ ys) r ∙ append_assoc x xs ys
-
 pub paced_none : (a : Option (List PaceCall)) → IsPaced [] a a
 paced_none None = tt
 paced_none (Some x) = sym (append-nil x)

@@ -193,7 +193,8 @@ fn list_group(
     requires ready { IsReady instance.now state.now }
     requires group { group.0 < length instance.now.groups }
     requires listed { AreListed instance.now (λ g k. g < group.0) lists.old }
-    ensures { OnOk result (AreListed instance.now (λ g k. (g < group.0) ⊎ (g ≡ group.0)) lists.new) }
+    ensures { OnOk result (AreListed instance.now (λ g k. (g < group.0) ⊎ (g ≡ group.0))
+        lists.new) }
 {
     for place in 0..instance.list_len(group) {
         let offer = Offer { group, place };

@@ -89,7 +89,8 @@ fn push_at(queues: &mut [Queue], at: usize, seat: Seat) -> Result<(), NoMemory>
     ensures from { (n : ℕ) (s : Seat) → Contains (queue_at queues.new n) s
         → Contains (queue_at queues.old n) s ⊎ (s ≡ seat) }
     ensures filed { OnOk result (Contains (queue_at queues.new at) seat) }
-    ensures first { OnOk result (KeepsFirst seat (queue_at queues.old at) (queue_at queues.new at)) }
+    ensures first { OnOk result
+        (KeepsFirst seat (queue_at queues.old at) (queue_at queues.new at)) }
     ensures others { (n : ℕ) → n ≢ at → queue_at queues.new n ≡ queue_at queues.old n }
 {
     let queue = &mut queues[at];

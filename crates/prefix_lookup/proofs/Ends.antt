@@ -22,40 +22,6 @@ use Rattle.prefix_lookup.proofs.Families.{wide}
 use Rattle.prefix_lookup.proofs.Longest.{Entry, in_contains}
 use Rattle.prefix_lookup.proofs.Swept.{advanced, innermost, its_block, opens, popped}
 
--- nothing has begun
-pub started : (family : Family) (table : List Entry) (blocks : List Block) (r : Ranges) (opened : List Block) → r.starts.items ≡ [] → r.groups.items ≡ [] → r.last ≡ None → r.next ≡ Some 0 → opened ≡ [] → Swept family table blocks 0 r opened
-started family table blocks r opened starts groups last next none = record {
-  covers = record {
-    ranges = subst (λ (l : List ℕ). AreRangesTo (stop_of r) family table l r.groups.items) (sym starts) (subst (λ (l : List GroupId). AreRangesTo (stop_of r) family table [] l) (sym groups) (record {
-      beside = refl;
-      some = λ some. absurd (omega (arith, stop));
-      none = λ _. refl;
-      first = refl;
-      rising = λ i lt. absurd (omega arith);
-      below = λ i lt. absurd (omega arith);
-      held = λ i n lt from to. absurd (omega arith);
-      group = λ i lt. absurd (omega arith);
-      differ = λ i lt same. absurd (omega arith);
-    }));
-    final = λ some. absurd (omega (arith, empty starts));
-    unbegun = λ _. last;
-  };
-  fits = omega (arith, stop);
-  standing = subst (AreOpen family blocks 0 (stop_of r)) (sym none) (record {
-    among = λ k lt. absurd (omega arith);
-    begun = λ k lt. absurd (omega arith);
-    nested = λ j k le lt. absurd (omega arith);
-    done = λ m lt. absurd (omega arith);
-    ahead = λ m le lt. omega (arith, stop);
-  });
-}
-  where
-    stop : stop_of r ≡ 0
-    stop = ap (λ (o : Option ℕ). unwrap_or o (2 ^ 128)) next
-
-    empty : {X : Type 0} {xs : List X} → xs ≡ [] → length xs ≡ 0
-    empty e = ap length e
-
 -- the block of an entry is at some place
 block_there : (family : Family) (table : List Entry) (blocks : List Block) (e : Entry) (b : Block) → AreBlocks family table blocks → Contains table e → e ≡ entry_of family b → (m : ℕ) × (m < length blocks) × (block_at blocks m ≡ b)
 block_there family table blocks e b are in_table same =

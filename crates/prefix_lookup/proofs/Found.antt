@@ -29,12 +29,6 @@ below_stop stop family table starts groups n i are last small = elim (cases_lt (
   | inr le ↦ subst (λ (b : Bool). n < (if b then start_at starts (i + 1) else stop)) (sym (le-ltb _ _ le)) small
 ]
 
-start_below : (stop : ℕ) (family : Family) (table : List Entry) (starts : List ℕ) (groups : List GroupId) (i : ℕ) → AreRangesTo stop family table starts groups → i < length starts → start_at starts i < stop_at stop starts i
-start_below stop family table starts groups i are lt = elim (cases_lt (i + 1) (length starts)) [
-  | inl more ↦ subst (λ (b : Bool). start_at starts i < (if b then start_at starts (i + 1) else stop)) (sym (lt-ltb _ _ more)) (are.rising i more)
-  | inr le ↦ subst (λ (b : Bool). start_at starts i < (if b then start_at starts (i + 1) else stop)) (sym (le-ltb _ _ le)) (are.below i lt)
-]
-
 -- the number right before a range is of the range before it
 before_it : (stop : ℕ) (family : Family) (table : List Entry) (starts : List ℕ) (groups : List GroupId) (i : ℕ) → AreRangesTo stop family table starts groups → i < length starts → 0 < start_at starts i → longest_at family table (start_at starts i - 1) ≡ longest_at family table (start_at starts i) → ⊥
 before_it stop family table starts groups zero are lt some same = omega (arith, are.first)

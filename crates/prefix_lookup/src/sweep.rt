@@ -171,8 +171,9 @@ fn reach(ranges: &mut Ranges, opened: &[Block], first: u128) -> Result<(), NoMem
 /// The ranges of blocks that are in order.
 fn sweep(alloc: Global, family: Family, blocks: &[Block]) -> Result<Ranges, NoMemory>
     requires { All (IsBlock family) blocks.now }
-    ensures { IfOk result (λ r. (table : List (Prefix × GroupId)) → IsTable table
-        → AreBlocks family table blocks.now → AreRanges family table r.starts.items r.groups.items) }
+    ensures { IfOk result (λ made. (table : List (Prefix × GroupId)) → IsTable table
+        → AreBlocks family table blocks.now
+        → AreRanges family table made.starts.items made.groups.items) }
 {
     let mut ranges = Ranges {
         starts: Vec::new(alloc),

@@ -36,26 +36,9 @@ node_put s m plan rows caps n c lt same =
     let nodes : with_capacities m.nodes (slice_set caps n.0 c) ≡ slice_set v.market.nodes n.0 (record (node_at v.market n.0) { capacity = c }) = capacities_set m.nodes caps n.0 c _ lt same in
     rw nodes refl
 
--- what a row and a capacity leave
-pub put_row_groups : (v : Version) (r : GroupId × GroupRow) → length (put_row v r).market.groups ≡ length v.market.groups
-unfolding put_row
-put_row_groups v r = length-set v.market.groups r.0.0 _
-
-pub put_row_nodes : (v : Version) (r : GroupId × GroupRow) → (put_row v r).market.nodes ≡ v.market.nodes
-unfolding put_row
-put_row_nodes v r = refl
-
 pub put_row_plan : (v : Version) (r : GroupId × GroupRow) → (put_row v r).plan ≡ v.plan
 unfolding put_row
 put_row_plan v r = refl
-
-pub put_row_serial : (v : Version) (r : GroupId × GroupRow) → (put_row v r).serial ≡ v.serial
-unfolding put_row
-put_row_serial v r = refl
-
-pub put_node_nodes : (v : Version) (n : NodeId × ℕ) → length (put_node v n).market.nodes ≡ length v.market.nodes
-unfolding put_node
-put_node_nodes v n = length-set v.market.nodes n.0.0 _
 
 pub put_node_plan : (v : Version) (n : NodeId × ℕ) → (put_node v n).plan ≡ v.plan
 unfolding put_node
@@ -72,7 +55,3 @@ nodes_plan (n ∷ ns) v = nodes_plan ns (put_node v n) ∙ put_node_plan v n
 -- a delta leaves the topology
 pub after_plan : (v : Version) (d : Delta) → (after v d).plan ≡ v.plan
 after_plan v d = nodes_plan d.nodes.items (fold put_row v d.groups.items) ∙ rows_plan d.groups.items v
-
-pub rows_nodes : (rows : List (GroupId × GroupRow)) (v : Version) → (fold put_row v rows).market.nodes ≡ v.market.nodes
-rows_nodes [] v = refl
-rows_nodes (r ∷ rs) v = rows_nodes rs (put_row v r) ∙ put_row_nodes v r

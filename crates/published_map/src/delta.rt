@@ -137,7 +137,7 @@ fn changed_capacities(
     new: &Instance,
 ) -> Result<Vec<(NodeId, Units)>, NoMemory>
     requires { IsSameShape old.now new.now }
-    ensures { IfOk result (λ nodes. NodesChanged old.now new.now (length old.now.nodes) nodes.items) }
+    ensures { IfOk result (λ made. NodesChanged old.now new.now (length old.now.nodes) made.items) }
 {
     let mut nodes = Vec::new(alloc);
     for number in 0..old.nodes() {

@@ -76,10 +76,6 @@ sums_released old new g k units rel there = λ h l. elim (cases_eq g h) [
       omega (arith, rel.lines (λ x _. x == h))
 ]
 
--- a release of units of an offer may be asked for
-pub can_release : (m : Market) (s : Standing) (g k units : ℕ) → CanCut m s → IsOffer m g k → units ≤ amount_at s.lines g k → CanRelease s g k units
-can_release m s g k units can o held = record { whole = can.whole; offer = IsOffer-shape m s.market (shape_sym s.market m can.shape) g k o; group = omega (arith, can.count, o.group); held = held }
-
 -- a group that holds too much has to give up units in each tree in which it holds some
 pub too_much : (m : Market) (lines : List MapLine) (g k units : ℕ) → IsOffer m g k → units ≤ amount_at lines g k → demand_of m g < placed lines g → 0 < units → IsFitting m lines (tree_of m g k) → ⊥
 too_much m lines g k units o held over some f = let fits = f.demands g (k, o, refl, omega (arith, held, some)) in absurd (omega (arith, fits))

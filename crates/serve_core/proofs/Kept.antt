@@ -56,10 +56,6 @@ committed h m lanes batch map v w c =
       few = w.few;
     }
 
--- the market of the newest version
-pub newest_market : (h : List Version) (m : Market) (lanes : List LaneState) (v : Version) → IsWorld h m lanes → newest_of h ≡ Some v → m ≡ v.market
-newest_market h m lanes v w is = sym (w.newest_is v is)
-
 -- a batch that is one for the newest version's market is one for that of the next
 change_shape : (m m' : Market) → IsSameShape m m' → (c : Change) → IsChange m c → IsChange m' c
 change_shape m m' s (Demand g d) h = let gs = s.groups in let there = h.0 in (omega (arith, gs, there), h.1, h.2)

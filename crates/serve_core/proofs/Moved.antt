@@ -50,18 +50,6 @@ pub take_step : (m : Machine Version) (v : Version) (lane : ℕ) (d : Packet) (s
 take_step m v lane d s way new taken lt there within le =
     (refl, (slice_index_or m.lanes lane fresh, new, takes m.history v lane d s way (slice_index_or m.lanes lane fresh) new taken there within le, moved_set m.lanes lane fresh new lt))
 
--- the events that a run takes, as those of the machine
-pub run_taken : (es : List Event) (m m' : Machine Version) (fault : Option StepFault) → RunsTo es m m' fault → (taken : List (machine.Event Version)) × IsTaken replies Follows taken m m'
-run_taken [] m m' fault r = ([], r.1)
-run_taken (e ∷ es) m m' fault r =
-    ⊎_elim
-    (λ (q : (mid : Machine Version) × events.Takes e m mid × RunsTo es mid m' fault). let rest = run_taken es q.0 m' fault q.2 in (q.1.0 ∷ rest.0, (q.0, q.1.2, rest.1)))
-    (λ (q : (f : StepFault) × (fault ≡ Some f) × (m' ≡ m) × IsRefused e m f). ([], q.2)) r
-
--- what a run keeps: a history, and lanes that are lane runs over it
-pub run_kept : (es : List Event) (m m' : Machine Version) (fault : Option StepFault) (first : Version) → RunsTo es m m' fault → IsLawful replies Follows first m → IsLawful replies Follows first m'
-run_kept es m m' fault first r kept = let taken = run_taken es m m' fault r in all_kept replies Follows first taken.0 m m' taken.1 kept
-
 -- what a commit, a tell and a take of the code do are events of the machine
 pub did_commit : (m m' : Machine Version) (batch : List Change) (map : MapLines) (r : Result (Unit {0}) StepFault) → OnOk r ((v : Version) × IsCommitOf m.history batch map v × (m' ≡ record m { history = m.history ++ v ∷ [] })) → OnOk r (events.Takes (Commit batch map) m m')
 did_commit m m' batch map (Ok u) h = (machine.commit h.0, (h.0, refl, h.1), ((h.1.0, batch, h.1.1, h.1.2), h.2))

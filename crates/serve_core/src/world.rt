@@ -195,7 +195,8 @@ impl World {
     ) -> Result<(), StepFault>
         ensures ok { OnOk result (IsTaking lane (record { octets = octets; from = from }) serial way
             self.old self.new) }
-        ensures refused { IfErr result (IsRefused (Event.Take lane octets from serial way) self.old) }
+        ensures refused { IfErr result
+            (IsRefused (Event.Take lane octets from serial way) self.old) }
         ensures same { OnErr result (self.new ≡ self.old) }
     {
         let newest = self.newest();

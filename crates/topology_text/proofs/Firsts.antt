@@ -21,15 +21,6 @@ pub first_on : {X A : Type 0} (f : X → List A) (xs : List X) (i : ℕ) (d : X)
     → first (flat_map f (drop i xs)) ≡ first (flat_map f (drop (i + 1) xs))
 first_on f xs i d h none = rw (drop_more xs i d h) (first-none (f (get_or xs i d)) _ none)
 
--- something at an element: that is the first
-pub first_here : {X A : Type 0} (f : X → List A) (xs : List X) (i : ℕ) (d : X) (x : A) → i < length xs → first (f (get_or xs i d)) ≡ Some x
-    → first (flat_map f (drop i xs)) ≡ Some x
-first_here f xs i d x h some = rw (drop_more xs i d h) (first-some (f (get_or xs i d)) _ x some)
-
--- nothing found at all
-pub firsts_end : {X A : Type 0} (f : X → List A) (xs : List X) (i : ℕ) → i ≡ length xs → first (flat_map f (drop i xs)) ≡ first (flat_map f xs) → first (flat_map f xs) ≡ None
-firsts_end f xs i e h = sym h ∙ (ap (λ ys. first (flat_map f ys)) (drop_all i xs (omega arith)))
-
 -- the same where the elements are seen through a view
 pub first_on_view : {W X A : Type 0} (v : W → X) (f : X → List A) (xs : List W) (i : ℕ) (d : W) → i < length xs → first (f (v (get_or xs i d))) ≡ None
     → first (flat_map f (map v (drop i xs))) ≡ first (flat_map f (map v (drop (i + 1) xs)))

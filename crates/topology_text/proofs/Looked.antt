@@ -15,12 +15,6 @@ pub list_of-view : (vs : List Value) → list_of (items_view vs) ≡ map view vs
 list_of-view [] = refl
 list_of-view (v ∷ vs) = ap (λ rest. view v ∷ rest) (list_of-view vs)
 
-pub seen_in : (r : Option (Bor Value)) (b : Bor Value) (x : Value) (d : Data) (o : Option Data) → option_map (λ v. view v.now) r ≡ o → r ≡ Some b → b.now ≡ x → view x ≡ d → o ≡ Some d
-seen_in r b x d o looked is now seen = sym looked ∙ rw (is, now, seen) refl
-
-pub none_in : (r : Option (Bor Value)) (o : Option Data) → option_map (λ v. view v.now) r ≡ o → r ≡ None → o ≡ None
-none_in r o looked is = sym looked ∙ rw is refl
-
 pub failing-array : (test : Data → Bool) (v : Value) (a : Vec Value Global) (vs : List Value) → v ≡ Array a → vs ≡ a.items → items_where test (map view vs) ≡ failing test (Some (view v))
 failing-array test v a vs is same = rw (is, same, view-Array a, list_of-view a.items) refl
 
@@ -28,18 +22,6 @@ failing-array test v a vs is same = rw (is, same, view-Array a, list_of-view a.i
 pub names_view : (test : List ℕ → Bool) (es : List (String Global × Value)) → list_all (λ k. test (string_bytes k)) (keys_of es) ≡ list_all test (names_of (members_view es))
 names_view test [] = refl
 names_view test (e ∷ es) = ap (λ b. test (string_bytes e.0) && b) (names_view test es)
-
--- the texts from one item on
-pub texts_step : (vs : List Value) (i : ℕ) (d : Value) → i < length vs → texts_of (map view (drop i vs)) ≡ cons_option (as_str (view (get_or vs i d))) (texts_of (map view (drop (i + 1) vs)))
-texts_step vs i d h = rw (drop_more vs i d h)
-
--- an item that is no text
-pub texts_skip : (vs : List Value) (i : ℕ) (d : Value) → i < length vs → as_str (view (get_or vs i d)) ≡ None → texts_of (map view (drop i vs)) ≡ texts_of (map view (drop (i + 1) vs))
-texts_skip vs i d h none = texts_step vs i d h ∙ ap (λ o. cons_option o (texts_of (map view (drop (i + 1) vs)))) none
-
--- an item that is one
-pub texts_here : (vs : List Value) (i : ℕ) (d : Value) (t : List ℕ) → i < length vs → as_str (view (get_or vs i d)) ≡ Some t → texts_of (map view (drop i vs)) ≡ t ∷ texts_of (map view (drop (i + 1) vs))
-texts_here vs i d t h some = texts_step vs i d h ∙ ap (λ o. cons_option o (texts_of (map view (drop (i + 1) vs)))) some
 
 -- a test that fails nothing finds nothing among items
 unread_items : (test : Data → Bool) → ((d : Data) → test d ≡ false) → (i : ℕ) (ds : List Data) → items_from test i ds ≡ []

@@ -43,14 +43,6 @@ noted old new name number none is q = is q ∙ by_test (bytes_eq name q) (λ h. 
     by_test true h = let e : old q ≡ None = ap old (sym (h refl)) ∙ none in rw e refl
     by_test false h = or_none (old q)
 
--- a name that had a number
-pub kept : (old : List ℕ → Option ℕ) (name : List ℕ) (k number : ℕ) → old name ≡ Some k → (q : List ℕ) → old q ≡ option_or (old q) (cond (bytes_eq name q) (Some number) None)
-kept old name k number some q = by_test (bytes_eq name q) (λ h. (bytes_eq-Decides name q).0 h)
-  where
-    by_test : (b : Bool) → (b ≡ true → name ≡ q) → old q ≡ option_or (old q) (cond b (Some number) None)
-    by_test true h = let e : old q ≡ Some k = ap old (sym (h refl)) ∙ some in rw e refl
-    by_test false h = or_none (old q)
-
 -- one entry more that has a name, and one that has none
 pub number_put : (es : List Value) (i : ℕ) (d : Value) (q : List ℕ) (m new : Option ℕ) (name : List ℕ) → i < length es → text_at (view (get_or es i d)) Name ≡ Some name
     → m ≡ number_of (map view (take i es)) q → new ≡ option_or m (cond (bytes_eq name q) (Some i) None) → new ≡ number_of (map view (take (i + 1) es)) q

@@ -77,12 +77,6 @@ seen_here k ds i d old s h there =
     let at : first (marked (λ i d. is_among (names_in k (take i ds)) (name_in k d)) ds) ≡ Some (i, get_or ds i d) = sym s.rest ∙ marked_here (λ i d. is_among (names_in k (take i ds)) (name_in k d)) i ds d h some in
     sym (first-map (λ p. Item p.0) (marked (λ i d. is_among (names_in k (take i ds)) (name_in k d)) ds) ∙ ap (option_map (λ (p : ℕ × Data). Item p.0)) at)
 
--- no item left
-pub seen_end : (k : Key) (ds : List Data) (i : ℕ) (old : List (List ℕ)) → AreSeen k ds i old → length ds ≤ i → None ≡ first (repeats_in k ds)
-seen_end k ds i old s h =
-    let at : first (marked (λ i d. is_among (names_in k (take i ds)) (name_in k d)) ds) ≡ None = sym s.rest ∙ ap (λ es. first (marked_from (λ i d. is_among (names_in k (take i ds)) (name_in k d)) i es)) (drop_all i ds h) in
-    sym (first-map (λ p. Item p.0) (marked (λ i d. is_among (names_in k (take i ds)) (name_in k d)) ds) ∙ ap (option_map (λ (p : ℕ × Data). Item p.0)) at)
-
 -- the same over values
 at_view : (vs : List Value) (i : ℕ) (v : Value) → i < length vs → v ≡ get_or vs i v → get_or (map view vs) i (view v) ≡ view v
 at_view vs i v h is = get_or-map view vs i v (view v) h ∙ ap view (sym is)

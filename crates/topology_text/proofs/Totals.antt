@@ -63,12 +63,6 @@ within_here visits i n v s h many =
     not_past : total (take i visits) ≤ 262144 → nat_lt 262144 (total (take i visits)) ≡ false
     not_past few = grind (arith, nat_tests)
 
--- no table left
-pub within_end : (visits : List Visit) (i n : ℕ) → IsWithin visits i n → length visits ≤ i → None ≡ first (passing visits)
-within_end visits i n s h =
-    let at : first (marked (passes visits) visits) ≡ None = sym s.rest ∙ ap (λ xs. first (marked_from (passes visits) i xs)) (drop_all i visits h) in
-    sym (first-map (λ p. record { spot = p.1.spot; key = Some Prefixes; at = Whole }) (marked (passes visits) visits) ∙ ap (option_map (λ (p : ℕ × Visit). record { spot = p.1.spot; key = Some Prefixes; at = Whole })) at)
-
 -- the same over the code's tables
 at_view : (ts : List TableAt) (i : ℕ) (t : TableAt) → i < length ts → t ≡ get_or ts i t → get_or (map visit ts) i (visit t) ≡ visit t
 at_view ts i t h is = get_or-map visit ts i t (visit t) h ∙ ap visit (sym is)

@@ -61,9 +61,3 @@ noted_here es i d old fresh place s h told old_one at_place =
     let some : is_later es i e ≡ true = sym (noted_has es i old e.prefix s.noted) ∙ there in
     let at : first (marked (is_later es) es) ≡ Some (i, e) = sym s.rest ∙ marked_here (is_later es) i es d h some in
     ap Some at_place ∙ sym (first-map (λ p. place_of p.1) (marked (is_later es) es) ∙ ap (option_map (λ (p : ℕ × PrefixAt). place_of p.1)) at)
-
--- no entry left
-pub noted_end : (es : List PrefixAt) (i : ℕ) (old : List Prefix) → AreNoted es i old → length es ≤ i → None ≡ first (duplicate_prefixes es)
-noted_end es i old s h =
-    let at : first (marked (is_later es) es) ≡ None = sym s.rest ∙ ap (λ xs. first (marked_from (is_later es) i xs)) (drop_all i es h) in
-    sym (first-map (λ p. place_of p.1) (marked (is_later es) es) ∙ ap (option_map (λ (p : ℕ × PrefixAt). place_of p.1)) at)

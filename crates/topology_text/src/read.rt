@@ -44,7 +44,8 @@ fn check_shape(tables: &[TableAt<'_>]) -> Result<(), TopologyFault>
 /// The first name, or service of a class, that stands earlier too.
 fn first_repeated(index: &Entries<'_>, repeats: &[bool], tables: &[TableAt<'_>]) -> Option<Place>
     requires { (i : ℕ) → slice_index_or repeats.now i false ≡ repeats_pair (entries index.now) i }
-    ensures { result ≡ first (places_of (duplicate_name (entries index.now)) (map visit tables.now)) }
+    ensures { result ≡ first (places_of (duplicate_name (entries index.now))
+        (map visit tables.now)) }
 {
     first_by(&DuplicateName::new(index, repeats), tables)
 }

@@ -7,4 +7,4 @@ use Rattle.best_check.proofs.nearest.is_full.Goals as goal
 pub returns : goal.returns
 returns c =
     let m : Market = c.args.instance.now in
-    ap (λ x. x == c.capacity.result) (c.load.ensures ∙ sym (load-shape c.args.state.now.market m c.requires.shape c.args.state.now.lines c.args.node.0)) ∙ ap (λ x. load m c.args.state.now.lines c.args.node.0 == x) c.capacity.ensures
+    ap (λ x. x == c.capacity.result) (c.load.ensures ∙ sym (load-shape c.args.state.now.market m c.requires.shape c.args.state.now.lines c.args.at.0)) ∙ ap (λ x. load m c.args.state.now.lines c.args.at.0 == x) c.capacity.ensures
