@@ -20,7 +20,7 @@ use Rattle.answer_core.specs.Reply.{cut_short, full}
 use Rattle.answer_core.specs.Limit.{limit_of, longest_reply}
 use Rattle.answer_core.specs.declared.way.Way.{Way}
 use Rattle.answer_core.specs.declared.way.Way.TheVariants as ways
-use Rattle.answer_core.specs.View.{outcome_view, records_view, AreFew, AreShort, IsFew, IsShort}
+use Rattle.answer_core.specs.View.{outcome_view, records_view, AreShort, IsShort}
 use Rattle.answer_core.specs.declared.outcome.Records as code_records
 use Rattle.answer_core.specs.declared.outcome.Records.TheVariants as records
 use Rattle.answer_core.specs.declared.outcome.Outcome as code
