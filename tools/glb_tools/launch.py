@@ -73,7 +73,7 @@ def address_in(text: str, option: str) -> tuple[str, int]:
     except OSError:
         number = 0
     if not 1 <= number <= 65535:
-        raise Fault(f"{option} {text}: no ADDR:PORT", WRONG_WORDS)
+        raise Fault(f"{option} {text}: no ADDR:PORT with a port from 1 to 65,535", WRONG_WORDS)
     return bare, number
 
 
