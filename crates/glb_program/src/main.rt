@@ -42,8 +42,17 @@ fn exit_code(status: Status) -> ExitCode
     ExitCode::from(status.code())
 }
 
-/// All of the program behind its words, which it reads: over these files, this feed, these sources of further feeds, these
-/// outputs and these lanes.
+/// What the mapper's thread alone uses: the files, where all that is said goes, where the texts of maps go, and the pace.
+#[derive(Drop)]
+struct MapperDevices<F, K, M> {
+    files: F,
+    out: K,
+    maps: K,
+    pace: M,
+}
+
+/// All of the program behind its words, which it reads: over these devices of the mapper, this feed, these sources of further
+/// feeds, and these lanes.
 fn run_words<
     R: Threads + Wait + Sync + Env + AllocGlobal,
     F: Shelf,
@@ -57,27 +66,27 @@ fn run_words<
     M: Pace,
 >(
     rt: &R,
-    files: &mut F,
+    mapper: &mut MapperDevices<F, K, M>,
     feed: &mut S,
     more: &mut [N],
-    out: &mut K,
-    maps: &mut K,
     lanes: &mut [Lane<P, G, D>],
     stream: &mut StreamLane<Q, G, D>,
-    pace: &mut M,
 ) -> Status
     requires feeds { length more.old ≡ 3 }
     requires lanes { length lanes.old ≡ 16 }
     // All of it is new: so each count of faults counts from 0 on, and what is told is all that was ever asked.
     requires fresh { (all_told F.told S.told N.told K.told M.told
-        files.old feed.old more.old out.old maps.old lanes.old stream.old pace.old)
+        mapper.old.files feed.old more.old mapper.old.out mapper.old.maps
+        lanes.old stream.old mapper.old.pace)
         ≡ new_surroundings }
     // Unless the words could not be read for want of memory, where nothing is touched, it is a run of what some words ask for.
     ensures { Ran
         (all_told F.told S.told N.told K.told M.told
-        files.old feed.old more.old out.old maps.old lanes.old stream.old pace.old)
+        mapper.old.files feed.old more.old mapper.old.out mapper.old.maps
+        lanes.old stream.old mapper.old.pace)
         (all_told F.told S.told N.told K.told M.told
-        files.new feed.new more.new out.new maps.new lanes.new stream.new pace.new)
+        mapper.new.files feed.new more.new mapper.new.out mapper.new.maps
+        lanes.new stream.new mapper.new.pace)
         result }
 {
     match read_args(rt) {
@@ -85,14 +94,14 @@ fn run_words<
             rt,
             rt.alloc(),
             words.as_slice(),
-            files,
+            &mut mapper.files,
             feed,
             more,
-            out,
-            maps,
+            &mut mapper.out,
+            &mut mapper.maps,
             lanes,
             stream,
-            pace,
+            &mut mapper.pace,
             MOST_TURNS,
         ),
         Err(NoMemory) => Status::NoMemory,
@@ -106,19 +115,22 @@ const STACK: usize = 8 << 20;
 fn main(rt: HostRuntime) -> ExitCode {
     let host = &rt;
     let work = move || -> Status {
-        let mut files = FileShelf::new(host);
         let mut feed = StreamSource::new(host.stdin());
         let mut more = [
             NamedStream::new(host),
             NamedStream::new(host),
             NamedStream::new(host),
         ];
-        let mut out = StreamSink::new(StandardStream::Output(host.stdout()));
-        let mut maps = StreamSink::new(StandardStream::Error(host.stderr()));
         let udp = SharedUdp::new();
         let tcp = SharedTcp::new();
         let flag = StopFlag::new();
-        let mut pace = FlagPace::new(&flag);
+        let pace = FlagPace::new(&flag);
+        let mut mapper = MapperDevices {
+            files: FileShelf::new(host),
+            out: StreamSink::new(StandardStream::Output(host.stdout())),
+            maps: StreamSink::new(StandardStream::Error(host.stderr())),
+            pace,
+        };
         match lanes_of(host.alloc(), host, &udp, &tcp, &flag) {
             Ok(
                 Network {
@@ -127,14 +139,11 @@ fn main(rt: HostRuntime) -> ExitCode {
                 },
             ) => run_words(
                 host,
-                &mut files,
+                &mut mapper,
                 &mut feed,
                 &mut more,
-                &mut out,
-                &mut maps,
                 lanes.as_mut_slice(),
                 &mut stream,
-                &mut pace,
             ),
             Err(NoMemory) => Status::NoMemory,
         }
