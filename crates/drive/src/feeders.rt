@@ -2,12 +2,12 @@
 //! it is told so, and gives its feed up.
 ghost use Rattle.std.specs.Prelude.{◌≡◌, ◌+◌, ◌∷◌, ◌++◌, [], All, length, vec_len, vec_capacity};
 ghost use Rattle.std.specs.Thread.{IsSync, IsSend};
-ghost use Rattle.drive.specs.All.{AllRan, HaveRun, HaveServed, MayRan};
+ghost use Rattle.drive.specs.All.{AllRan, HaveRun, HaveServed};
 ghost use Rattle.drive.specs.Readers.{IsSameReaders};
 
-use crate::beside::{Feeds, Workers, run_beside};
+use crate::beside::{Feeds, Workers, serve_beside};
 use crate::fork::join_told;
-use crate::lane::Runs;
+use crate::lane::{Closes, Runs};
 use std::sync::Wait;
 use std::thread::Threads;
 
@@ -188,11 +188,12 @@ pub(crate) fn run_among<
     F: Fresh + Drop + Send,
     S: Sends<Q, F> + Send,
     T: Sends<Q, F> + Send,
-    G: Feeds<W>,
-    L: Runs<W, H> + Send,
+    G: Feeds<W, Note = N>,
+    L: Runs<W, H> + Closes<N, H> + Send,
     W: Sync,
+    N: Drop,
     H: Drop + Send,
-    U: Runs<W, H> + Send,
+    U: Runs<W, H> + Closes<N, H> + Send,
     R: Threads + Wait + Sync,
 >(
     rt: &R,
@@ -215,10 +216,8 @@ pub(crate) fn run_among<
     ensures sent { AllRan (T.sent loan.old.readers.desk.now) loan.old.more.now loan.new.more.now
         loan.old.readers.feeders.now.items loan.new.readers.feeders.now.items }
     ensures fed { G.fed loan.old.side loan.new.side }
-    ensures ran { AllRan L.ran loan.old.lanes.now loan.new.lanes.now
-        works.old.lanes.items works.new.lanes.items }
-    ensures stream { MayRan U.ran stream.old stream.new works.old.stream works.new.stream }
-    ensures len { vec_len works.new.lanes ≡ vec_len works.old.lanes }
+    ensures served { HaveServed (G.noted loan.new.side) L.ran L.closed U.ran U.closed
+        loan.old.lanes.now loan.new.lanes.now stream.old stream.new works.old works.new }
 {
     let desk = loan.readers.desk;
     let side = &mut loan.side;
@@ -227,11 +226,12 @@ pub(crate) fn run_among<
     let mut inner = ||
         requires { G.ready side.now × (length lanes.now ≡ vec_len works.now.lanes) }
         ensures { G.fed side.entry.now side.exit.now
-            × HaveServed L.ran U.ran lanes.entry.now lanes.exit.now
+            × HaveServed (G.noted side.exit.now) L.ran L.closed U.ran U.closed
+            lanes.entry.now lanes.exit.now
             stream.entry.now stream.exit.now works.entry.now works.exit.now }
     {
         desk.start(rt);
-        run_beside(rt, works, lanes, stream, side);
+        serve_beside(rt, works, lanes, stream, side);
     };
     run_feeders(rt, &mut loan.readers, more, &mut inner);
 }
