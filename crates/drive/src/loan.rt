@@ -25,11 +25,7 @@ fn newest_note<J: Naming>(mapper: &Mapper<J>) -> Note<J>
 }
 
 /// The row's first cell gets the note of a mapper's first map, for all lanes. It answers how many cells hold a note then.
-pub(crate) fn tell_first<J: Naming, R: Wait>(
-    rt: &R,
-    row: &NoteRow<J>,
-    mapper: &Mapper<J>,
-) -> Told
+pub(crate) fn tell_first<J: Naming, R: Wait>(rt: &R, row: &NoteRow<J>, mapper: &Mapper<J>) -> Told
     ensures { length mapper.now.history ≡ 1 → AreTold mapper.now.history result }
 {
     let mut told = Told::of_none();
