@@ -28,6 +28,6 @@ are_served turns first h m lanes lanes' stream stream' works works' opened kept 
       (
         all_done _ _ _ _ (λ i a b k v w x fr ran cl. done_by turns first kept.0 i _ _ _ _ _ _ _ _ _ _ _ _ _ _ _ _ _ _ _ ran.0 fr.0 fr.4 known opened fr.2 fr.3 fr.1 refl refl ran.2 ran.1 cl.0 cl.1 cl.2 cl.3 ran.3 cl.4 cl.5 cl.6) 0 _ _ _ _ _ _ (fresh_of _ 0 _ _ size fresh) s.ran s.closed,
         rw s.len
-        (may_done (λ w. w.ended) _ _ _ turns first kept.0 _ (λ a b k v w x fr ran cl. stream_by turns first kept.0 _ _ _ _ _ _ _ _ _ _ _ _ _ _ _ _ _ _ _ _ ran.0 fr.0 fr.4 known opened fr.2 fr.3 fr.1 refl refl refl ran.2 ran.1 cl.0 cl.1 cl.2 cl.3 ran.3 cl.4 cl.5 cl.6) _ _ _ _ _ _ listener s.stream_ran s.stream_closed),
+            (may_done (λ w. w.ended) _ _ _ turns first kept.0 _ (λ a b k v w x fr ran cl. stream_by turns first kept.0 _ _ _ _ _ _ _ _ _ _ _ _ _ _ _ _ _ _ _ _ ran.0 fr.0 fr.4 known opened fr.2 fr.3 fr.1 refl refl refl ran.2 ran.1 cl.0 cl.1 cl.2 cl.3 ran.3 cl.4 cl.5 cl.6) _ _ _ _ _ _ listener s.stream_ran s.stream_closed),
       ),
     )

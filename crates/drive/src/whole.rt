@@ -8,7 +8,6 @@ ghost use Rattle.mapper.specs.Notes.{AreTold};
 ghost use Rattle.drive.specs.AllDone.{AllHeld, IsFresh};
 ghost use Rattle.drive.specs.Counted.{AreCounted};
 ghost use Rattle.drive.specs.Driven.{AreEnds, IsDriven};
-ghost use Rattle.drive.specs.Queue.{IsFeedQueue};
 ghost use Rattle.drive.specs.Told.{AreUntouched, IsSameLent, lent_of};
 
 use crate::beside::{Workers, serve_beside};
@@ -220,106 +219,8 @@ fn drive_one<
     }
 }
 
-/// Drives several feeds, as `drive`.
+/// Drives several feeds, as `drive`, by a queue.
 fn drive_several<
-    J: Naming + Send + Sync,
-    N: Numbers + Send + Sync,
-    S: Source + Send,
-    T: Source + Send,
-    K: Sink,
-    P: Port + Send,
-    Q: Streams + Send,
-    G: Gate + Send,
-    D: Door + Send,
-    M: Pace,
-    R: Threads + Wait + Sync,
->(
-    rt: &R,
-    queue: FeedQueue<N>,
-    mapper: Mapper<J>,
-    works: Workers<NoteRow<J>, LaneWorker<J>>,
-    lent: &mut Lent<'_, '_, '_, '_, '_, '_, S, T, K, P, G, D, M>,
-    stream: &mut StreamLane<Q, G, D>,
-) -> DriveEnd
-    requires serial { mapper.newest.serial ≡ 0 }
-    requires queue { IsFeedQueue
-        N.groups N.nodes (length lent.old.more.now) mapper.newest.plan queue }
-    requires turns { (lent.old.turns ≤ MOST_TURNS) × (queue.desk.turns ≡ lent.old.turns) }
-    requires fresh { AllHeld (IsFresh mapper.history lent.old.turns) 0 works.lanes.items }
-    requires listener { IfSome works.stream
-        (IsFresh mapper.history lent.old.turns (vec_len works.lanes)) }
-    requires few { (vec_len works.lanes ≤ 16)
-        × (vec_len works.lanes ≤ length lent.old.lanes.now) }
-    requires several { lent.old.more.now ≢ [] }
-    ensures keeps { IsSameLent lent.old lent.new }
-    ensures driven { (ends : List Ended) × (length ends ≡ vec_len works.lanes)
-        × AreEnds ends result.lanes
-        × (d : IsDriven lent.old.turns mapper.newest result.feed ends result.stream
-        (lent_of S.told T.told K.told M.told lent.old stream.old)
-        (lent_of S.told T.told K.told M.told lent.new stream.new))
-        × (result.feed ≢ FeedEnd.SinkFault
-        → IfSome result.told (AreTold (mapper.newest ∷ d.rest))) }
-    ensures untouched { drop (vec_len works.lanes) lent.new.lanes.now ≡ drop
-        (vec_len works.lanes) lent.old.lanes.now }
-    ensures stream { length (option_to_list result.stream) ≡ length
-        (option_to_list works.stream) }
-    ensures counted { AreCounted result.feed
-        (lent_of S.told T.told K.told M.told lent.old stream.old)
-        (lent_of S.told T.told K.told M.told lent.new stream.new) }
-{
-    let mut mapper = mapper;
-    // tells the prover what the type keeps
-    let _ = mapper.newest();
-    let mut works = works;
-    let FeedQueue {
-        desk,
-        first,
-        feeders,
-        taker,
-    } = queue;
-    let mut first = first;
-    let mut feeders = feeders;
-    let mut taker = taker;
-    let told = tell_first(rt, &works.row, &mapper);
-    let count = works.lanes.len();
-    let lanes = &mut *lent.lanes;
-    let (served, _behind) = lanes.split_at_mut(count);
-    let more = &mut *lent.more;
-    let mut loan = SeveralLoan {
-        readers: Readers {
-            desk: &desk,
-            first: &mut first,
-            feed: lent.feed,
-            feeders: &mut feeders,
-        },
-        more,
-        side: TakerLoan {
-            mapper: &mut mapper,
-            taker: &mut taker,
-            to: Outputs {
-                out: lent.out,
-                maps: lent.maps,
-                pace: lent.pace,
-                told,
-            },
-            end: FeedEnd::Ended,
-        },
-        lanes: served,
-    };
-    run_among(rt, &mut loan, &mut works, stream);
-    let ended = loan.side.end;
-    all_back(&mut taker, first, feeders);
-    mapper.close(rt);
-    DriveEnd {
-        feed: ended,
-        lanes: ends_of(&works.lanes),
-        stream: end_of(&works.stream),
-        told: None,
-    }
-}
-
-/// Opens a queue, and drives several feeds, as `drive`.
-fn drive_with<
     J: Naming + Send + Sync,
     N: Numbers + Send + Sync,
     S: Source + Send,
@@ -365,12 +266,57 @@ fn drive_with<
         (lent_of S.told T.told K.told M.told lent.old stream.old)
         (lent_of S.told T.told K.told M.told lent.new stream.new)) }
 {
-    let count = lent.more.len() as u8;
-    let Ok(queue) = open_queue::<N>(alloc, mapper.topology(), count, lent.turns) else {
+    let feeds = lent.more.len() as u8;
+    let Ok(queue) = open_queue::<N>(alloc, mapper.topology(), feeds, lent.turns) else {
         mapper.close(rt);
         return Err(NoMemory);
     };
-    Ok(drive_several(rt, queue, mapper, works, lent, stream))
+    let FeedQueue {
+        desk,
+        mut first,
+        mut feeders,
+        mut taker,
+    } = queue;
+    let mut mapper = mapper;
+    // tells the prover what the type keeps
+    let _ = mapper.newest();
+    let mut works = works;
+    let told = tell_first(rt, &works.row, &mapper);
+    let count = works.lanes.len();
+    let lanes = &mut *lent.lanes;
+    let (served, _behind) = lanes.split_at_mut(count);
+    let more = &mut *lent.more;
+    let mut loan = SeveralLoan {
+        readers: Readers {
+            desk: &desk,
+            first: &mut first,
+            feed: lent.feed,
+            feeders: &mut feeders,
+        },
+        more,
+        side: TakerLoan {
+            mapper: &mut mapper,
+            taker: &mut taker,
+            to: Outputs {
+                out: lent.out,
+                maps: lent.maps,
+                pace: lent.pace,
+                told,
+            },
+            end: FeedEnd::Ended,
+        },
+        lanes: served,
+    };
+    run_among(rt, &mut loan, &mut works, stream);
+    let ended = loan.side.end;
+    all_back(&mut taker, first, feeders);
+    mapper.close(rt);
+    Ok(DriveEnd {
+        feed: ended,
+        lanes: ends_of(&works.lanes),
+        stream: end_of(&works.stream),
+        told: None,
+    })
 }
 
 /// Who works in a drive: the mapper, a viewer of its maps for each of the first lanes, and one for the lane for conversations,
@@ -468,5 +414,5 @@ pub fn drive<
     if count == 0 {
         return Ok(drive_one::<J, S, T, K, P, Q, G, D, M, R>(rt, mapper, works, lent, stream));
     }
-    drive_with::<J, Brand, S, T, K, P, Q, G, D, M, R>(rt, alloc, mapper, works, lent, stream)
+    drive_several::<J, Brand, S, T, K, P, Q, G, D, M, R>(rt, alloc, mapper, works, lent, stream)
 }
