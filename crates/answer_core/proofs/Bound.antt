@@ -14,30 +14,16 @@ use Rattle.topology_text.specs.declared.topology.Zone.{Zone}
 use Rattle.topology_text.specs.Plan.{IsZone}
 use Rattle.answer_core.specs.Columns.{is_authoritative, is_truncated, rcode, scope_told}
 use Rattle.answer_core.specs.Grammar.{Request}
-use Rattle.answer_core.specs.Outcome.{Outcome, Records, BadVers, Error, Negative, Positive, Truncated, Soa, NameServers, Addresses}
 use Rattle.answer_core.specs.Sections.{resource, server, address, soa, numbers_of, apex_name, question_name, resources, answers, authority, additional, repeated, count_of_opt}
 use Rattle.answer_core.specs.Reply.{cut_short, full}
 use Rattle.answer_core.specs.Limit.{limit_of, longest_reply}
 use Rattle.answer_core.specs.declared.way.Way.{Way}
 use Rattle.answer_core.specs.declared.way.Way.TheVariants as ways
-use Rattle.answer_core.specs.View.{outcome_view, records_view, AreFew, AreShort, IsFew, IsShort}
-use Rattle.answer_core.specs.declared.outcome.Records as code_records
-use Rattle.answer_core.specs.declared.outcome.Records.TheVariants as records
-use Rattle.answer_core.specs.declared.outcome.Outcome as code
-use Rattle.answer_core.specs.declared.outcome.Outcome.TheVariants as variants
-
--- few addresses under a name that is not long, and servers under a short one
-abbrev pub FewFit : ℕ → Records → Type 0
-FewFit size Soa = Unit {0}
-FewFit size NameServers = size ≤ 64
-FewFit size (Addresses kind addresses) = (size ≤ 128) × (length addresses ≤ 40)
-
-abbrev pub Fits : ℕ → Outcome → Type 0
-Fits size BadVers = Unit {0}
-Fits size (Error code) = Unit {0}
-Fits size (Negative code) = Unit {0}
-Fits size (Positive records scope) = FewFit size records
-Fits size (Truncated scope) = Unit {0}
+use Rattle.answer_core.specs.View.{AreShort, IsShort}
+use Rattle.answer_core.specs.declared.outcome.Outcome.{Outcome}
+use Rattle.answer_core.specs.declared.outcome.Outcome.TheVariants.{BadVers, Error, Negative, Positive, Truncated}
+use Rattle.answer_core.specs.declared.outcome.Records.{Records}
+use Rattle.answer_core.specs.declared.outcome.Records.TheVariants.{Soa, NameServers, Addresses}
 
 servers_len : (ttl : ℕ) (ns : List (List ℕ)) → All (λ n. length n ≤ 64) ns → length (flat_map resource (map (server ttl) ns)) ≤ 76 * length ns
 servers_len ttl [] all = omega arith
@@ -73,19 +59,19 @@ repeated_len (Some s) (Some scope) = option_len s.addr s.source scope
 repeated_len (Some s) None = omega arith
 repeated_len None told = omega arith
 
-additional_len : (o : Option Extension) (subnet : Option SubnetOpt) (outcome : Outcome) → length (additional o subnet outcome) ≤ 35
+additional_len : (o : Option Extension) (subnet : Option SubnetOpt) (outcome : Outcome (List Addr)) → length (additional o subnet outcome) ≤ 35
 additional_len None subnet outcome = omega arith
 additional_len (Some e) subnet outcome = omega (arith, repeated_len subnet (scope_told outcome))
 
 -- a name and the records behind it
-name_and_answers : (z : Zone) (name : List ℕ) (r : Records) → IsZone z → length name ≤ 255 → FewFit (length name) r → length name + length (flat_map resource (resources z r)) ≤ 1248
+name_and_answers : (z : Zone) (name : List ℕ) (r : Records (List Addr)) → IsZone z → length name ≤ 255 → AreShort (length name) r → length name + length (flat_map resource (resources z r)) ≤ 1248
 name_and_answers z name Soa zone short fit = let a : length (flat_map resource (resources z Soa)) ≤ 160 = soa_len z question_name z.ttl zone in omega arith
 name_and_answers z name NameServers zone short fit =
     let a : length (flat_map resource (resources z NameServers)) ≤ 76 * length z.ns = servers_len z.ttl z.ns zone.short_ns in omega (arith, zone.few_ns)
 name_and_answers z name (Addresses kind addresses) zone short fit =
     let some : length (flat_map resource (resources z (Addresses kind addresses))) ≤ 28 * length addresses = addresses_len z.ttl kind addresses in omega (arith, fit.0, fit.1)
 
-name_and_records : (z : Zone) (name : List ℕ) (o : Outcome) → IsZone z → length name ≤ 255 → Fits (length name) o → length name + length (flat_map resource (answers z o)) + length (flat_map resource (authority z name o)) ≤ 1248
+name_and_records : (z : Zone) (name : List ℕ) (o : Outcome (List Addr)) → IsZone z → length name ≤ 255 → IsShort (length name) o → length name + length (flat_map resource (answers z o)) + length (flat_map resource (authority z name o)) ≤ 1248
 name_and_records z name BadVers zone short fit = omega arith
 name_and_records z name (Error code) zone short fit = omega arith
 name_and_records z name (Negative code) zone short fit = let a : length (flat_map resource (authority z name (Negative code))) ≤ 160 = soa_len z (apex_name z name) (min z.ttl z.minimum) zone in omega arith
@@ -93,7 +79,7 @@ name_and_records z name (Positive records scope) zone short fit = let a : length
 name_and_records z name (Truncated scope) zone short fit = omega arith
 
 -- with no records of an answer
-name_and_rest : (z : Zone) (name : List ℕ) (o : Outcome) → IsZone z → length name ≤ 255 → length name + length (flat_map resource (answers z (cut_short o))) + length (flat_map resource (authority z name (cut_short o))) ≤ 423
+name_and_rest : (z : Zone) (name : List ℕ) (o : Outcome (List Addr)) → IsZone z → length name ≤ 255 → length name + length (flat_map resource (answers z (cut_short o))) + length (flat_map resource (authority z name (cut_short o))) ≤ 423
 name_and_rest z name BadVers zone short = omega arith
 name_and_rest z name (Error code) zone short = omega arith
 name_and_rest z name (Negative code) zone short = let a : length (flat_map resource (authority z name (Negative code))) ≤ 160 = soa_len z (apex_name z name) (min z.ttl z.minimum) zone in omega arith
@@ -106,36 +92,24 @@ five most head name a b c n h1 h2 h3 h4 = omega (arith, length-append (head ++ n
 question_len : (name : List ℕ) (kind class : ℕ) → length (question name kind class) ≡ length name + 4
 question_len name kind class = omega (arith, length-append (name ++ u16 kind) (u16 class), length-append name (u16 kind))
 
-length_by : (most : ℕ) (z : Zone) (r : Request) (o : Outcome) → length r.asked.name + length (flat_map resource (answers z o)) + length (flat_map resource (authority z r.asked.name o)) ≤ most → length (full z r o) ≤ most + 51
+length_by : (most : ℕ) (z : Zone) (r : Request) (o : Outcome (List Addr)) → length r.asked.name + length (flat_map resource (answers z o)) + length (flat_map resource (authority z r.asked.name o)) ≤ most → length (full z r o) ≤ most + 51
 length_by most z r o some =
     let q = r.asked in
     five most (header q.head (is_authoritative o) (is_truncated o) (rcode o) (1 ∷ length (answers z o) ∷ length (authority z q.name o) ∷ count_of_opt q.opt ∷ [])) (question q.name q.kind q.class) (flat_map resource (answers z o)) (flat_map resource (authority z q.name o)) (additional q.opt r.subnet o) (length q.name)
     refl (question_len q.name q.kind q.class) some (additional_len q.opt r.subnet o)
 
-pub bound : (z : Zone) (r : Request) (o : Outcome) → IsZone z → length r.asked.name ≤ 255 → Fits (length r.asked.name) o → length (full z r o) ≤ longest_reply
+pub bound : (z : Zone) (r : Request) (o : Outcome (List Addr)) → IsZone z → length r.asked.name ≤ 255 → IsShort (length r.asked.name) o → length (full z r o) ≤ longest_reply
 bound z r o zone short fit = omega (arith, length_by 1248 z r o (name_and_records z r.asked.name o zone short fit))
 
-pub bound_cut : (z : Zone) (r : Request) (o : Outcome) → IsZone z → length r.asked.name ≤ 255 → length (full z r (cut_short o)) ≤ 512
+pub bound_cut : (z : Zone) (r : Request) (o : Outcome (List Addr)) → IsZone z → length r.asked.name ≤ 255 → length (full z r (cut_short o)) ≤ 512
 bound_cut z r o zone short = omega (arith, length_by 423 z r (cut_short o) (name_and_rest z r.asked.name o zone short))
 
 -- the same, where the outcome that was cut short is told by an equation
-pub bound_cut_as : (z : Zone) (r : Request) (o cut : Outcome) → cut ≡ cut_short o → IsZone z → length r.asked.name ≤ 255 → length (full z r cut) ≤ 512
-bound_cut_as z r o cut is zone short = subst (λ (x : Outcome). length (full z r x) ≤ 512) (sym is) (bound_cut z r o zone short)
+pub bound_cut_as : (z : Zone) (r : Request) (o cut : Outcome (List Addr)) → cut ≡ cut_short o → IsZone z → length r.asked.name ≤ 255 → length (full z r cut) ≤ 512
+bound_cut_as z r o cut is zone short = subst (λ (x : Outcome (List Addr)). length (full z r x) ≤ 512) (sym is) (bound_cut z r o zone short)
 
 -- a limit is at least 512
 pub limit_least : (way : Way) (o : Option Extension) → 512 ≤ limit_of way o
 limit_least ways.Stream o = omega arith
 limit_least ways.Datagram None = omega arith
 limit_least ways.Datagram (Some e) = omega arith
-
-few_fit : (size : ℕ) (r : code_records.Records) → AreShort size r → FewFit size (records_view r)
-few_fit size records.Soa short = tt
-few_fit size records.NameServers short = short
-few_fit size (records.Addresses kind addresses) short = short
-
-pub view_fits : (size : ℕ) (o : code.Outcome) → IsShort size o → Fits size (outcome_view o)
-view_fits size variants.BadVers short = tt
-view_fits size (variants.Error rcode) short = tt
-view_fits size (variants.Negative rcode) short = tt
-view_fits size (variants.Positive found scope) short = few_fit size found short
-view_fits size (variants.Truncated scope) short = tt

@@ -1,5 +1,5 @@
 -- The addresses that answer for a service, by the steps that find them.
-use Rattle.std.proofs.Common.{◌≡◌, ℕ, Bool, true, false, Some, None, sym, ap, ◌∙◌}
+use Rattle.std.proofs.Common.{◌≡◌, ℕ, Bool, true, false, List, Some, None, sym, ap, ◌∙◌}
 use Rattle.std.specs.Prelude.{if◌then◌else◌, not}
 use Rattle.std.specs.Option.{option_and_then}
 use Rattle.addr_text.specs.declared.address.Addr.{Addr}
@@ -8,9 +8,10 @@ use Rattle.prefix_lookup.specs.Longest.{group_of}
 use Rattle.topology_text.specs.Plan.{addresses_of, unit_of}
 use Rattle.published_map.specs.Version.{Version}
 use Rattle.answer_core.specs.Grammar.{Request}
-use Rattle.answer_core.specs.Outcome.{Outcome, NoData, answered_kind, at_service, client_of, is_address_kind, of_addresses, of_pool, pool_for, pool_for_unit, told_scope}
+use Rattle.answer_core.specs.declared.outcome.Outcome.{Outcome}
+use Rattle.answer_core.specs.Outcome.{NoData, answered_kind, at_service, client_of, is_address_kind, of_addresses, of_pool, pool_for, pool_for_unit, told_scope}
 
-by_kind : (b : Bool) (kind answered : ℕ) (found : ℕ → Outcome) → Some kind ≡ (if b then Some answered else None) → found kind ≡ (if not b then NoData else found answered)
+by_kind : (b : Bool) (kind answered : ℕ) (found : ℕ → Outcome (List Addr)) → Some kind ≡ (if b then Some answered else None) → found kind ≡ (if not b then NoData else found answered)
 by_kind true kind answered found e = let same : kind ≡ answered = cc in ap found same
 by_kind false kind answered found e = absurd cc
 

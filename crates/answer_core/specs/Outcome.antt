@@ -12,30 +12,13 @@ use Rattle.prefix_lookup.specs.Scope.{IsScope, scope_of}
 use Rattle.published_map.specs.Version.{Version}
 use Rattle.topology_text.specs.declared.topology.Zone.{Zone}
 use Rattle.topology_text.specs.Plan.{addresses_of, unit_of}
+use Rattle.answer_core.specs.declared.outcome.Outcome.{Outcome}
+use Rattle.answer_core.specs.declared.outcome.Outcome.TheVariants.{BadVers, Error, Negative, Positive}
+use Rattle.answer_core.specs.declared.outcome.Records.TheVariants.{Soa, NameServers, Addresses}
 use Rattle.answer_core.specs.declared.request.QueryFault.{QueryFault}
 use Rattle.answer_core.specs.declared.request.QueryFault.TheVariants as fault
 use Rattle.answer_core.specs.Grammar.{Request}
 use Rattle.answer_core.specs.Pick.{pick_of}
-
--- the records of a positive answer
-pub data Records : Type 0 where
-  -- the zone's start of authority, and its name servers
-  Soa : Records
-  NameServers : Records
-  -- addresses, as records of a type: A or AAAA
-  Addresses : (kind : ℕ) (addresses : List Addr) → Records
-
-pub data Outcome : Type 0 where
-  -- an EDNS version that is not spoken here (RFC 6891 6.1.3)
-  BadVers : Outcome
-  -- an error, by its RCODE (RFC 1035 4.1.1)
-  Error : (code : ℕ) → Outcome
-  -- no such name, or no record of the type, by its RCODE (RFC 2308 2.1, 2.2)
-  Negative : (code : ℕ) → Outcome
-  -- records, and the scope that is told where a subnet was given
-  Positive : (records : Records) (scope : ℕ) → Outcome
-  -- records for which the reply has no room (RFC 2181 9): none of them, and the scope that is told
-  Truncated : (scope : ℕ) → Outcome
 
 -- RCODE (RFC 1035 4.1.1): a format error, a server failure, no such name, refused, and none of these
 abbrev pub form_err : ℕ
@@ -54,20 +37,20 @@ abbrev pub no_error : ℕ
 no_error = 0
 
 -- options that break their format; another class than IN, or not a name of the zone; nothing placed for the client's unit
-abbrev pub FormErr : Outcome
+abbrev pub FormErr : Outcome (List Addr)
 FormErr = Error form_err
 
-abbrev pub Refused : Outcome
+abbrev pub Refused : Outcome (List Addr)
 Refused = Error refused
 
-abbrev pub ServFail : Outcome
+abbrev pub ServFail : Outcome (List Addr)
 ServFail = Error serv_fail
 
 -- no such name, and no record of the type
-abbrev pub NxDomain : Outcome
+abbrev pub NxDomain : Outcome (List Addr)
 NxDomain = Negative nx_domain
 
-abbrev pub NoData : Outcome
+abbrev pub NoData : Outcome (List Addr)
 NoData = Negative no_error
 
 -- the client's address: that of the subnet, where some of its bits are given, else the sender's
@@ -93,11 +76,11 @@ abbrev pub pool_for : Version → Addr → ℕ → ℕ → Option ℕ
 pool_for v client service draw = option_and_then (λ g. pool_for_unit v draw (unit_of v.plan g.0 service)) (group_of v.plan.prefixes client)
 
 -- all addresses of the pool, in the file's order
-abbrev pub of_addresses : ℕ → List Addr → ℕ → Outcome
+abbrev pub of_addresses : ℕ → List Addr → ℕ → Outcome (List Addr)
 of_addresses kind [] scope = NoData
 of_addresses kind (a ∷ more) scope = Positive (Addresses kind (a ∷ more)) scope
 
-abbrev pub of_pool : Version → ℕ → ℕ → Option ℕ → Outcome
+abbrev pub of_pool : Version → ℕ → ℕ → Option ℕ → Outcome (List Addr)
 of_pool v kind scope None = ServFail
 of_pool v kind scope (Some pool) = of_addresses kind (addresses_of v.plan pool kind) scope
 
@@ -109,13 +92,13 @@ abbrev pub answered_kind : ℕ → ℕ
 answered_kind kind = if kind == 28 then 28 else 1
 
 -- the name of the service of a number
-abbrev pub at_service : Version → Request → Addr → ℕ → ℕ → Outcome
+abbrev pub at_service : Version → Request → Addr → ℕ → ℕ → Outcome (List Addr)
 at_service v r from draw service =
     if not (is_address_kind r.asked.kind) then NoData
     else of_pool v (answered_kind r.asked.kind) (told_scope v r.subnet) (pool_for v (client_of r.subnet from) service draw)
 
 -- the apex
-abbrev pub at_apex : ℕ → Outcome
+abbrev pub at_apex : ℕ → Outcome (List Addr)
 at_apex kind = if kind == 6 then Positive Soa 0 else if kind == 2 then Positive NameServers 0 else NoData
 
 -- the number of the service whose name it is: its label and the apex
@@ -123,12 +106,12 @@ abbrev pub service_of : Zone → List ℕ → Option ℕ
 service_of z name = position (λ service. is_same name (labels_part service ++ z.apex)) z.services
 
 -- a name under the apex
-abbrev pub of_service : Version → Request → Addr → ℕ → Option ℕ → Outcome
+abbrev pub of_service : Version → Request → Addr → ℕ → Option ℕ → Outcome (List Addr)
 of_service v r from draw None = NxDomain
 of_service v r from draw (Some service) = at_service v r from draw service
 
 -- class IN is 1
-abbrev pub by_name : Version → Request → Addr → ℕ → Outcome
+abbrev pub by_name : Version → Request → Addr → ℕ → Outcome (List Addr)
 by_name v r from draw =
     let zone = v.plan.zone in
     if not (r.asked.class == 1) then Refused
@@ -137,10 +120,10 @@ by_name v r from draw =
     else of_service v r from draw (service_of zone r.asked.name)
 
 -- what is at fault comes before class and name
-abbrev pub by_fault : Option QueryFault → Outcome → Outcome
+abbrev pub by_fault : Option QueryFault → Outcome (List Addr) → Outcome (List Addr)
 by_fault (Some fault.Version) other = BadVers
 by_fault (Some fault.Options) other = FormErr
 by_fault None other = other
 
-abbrev pub outcome_of : Version → Request → Addr → ℕ → Outcome
+abbrev pub outcome_of : Version → Request → Addr → ℕ → Outcome (List Addr)
 outcome_of v r from draw = by_fault r.fault (by_name v r from draw)

@@ -10,7 +10,9 @@ use Rattle.answer_core.specs.declared.replying.Answer.{Answer}
 use Rattle.answer_core.specs.declared.replying.Answer.TheVariants as answer
 use Rattle.answer_core.specs.Columns.{is_authoritative, is_truncated, rcode}
 use Rattle.answer_core.specs.Grammar.{Request, Datagram, datagram_of, Silent, NotImp, Form, Query}
-use Rattle.answer_core.specs.Outcome.{Outcome, BadVers, Error, Negative, Positive, Truncated, outcome_of}
+use Rattle.answer_core.specs.Outcome.{outcome_of}
+use Rattle.answer_core.specs.declared.outcome.Outcome.{Outcome}
+use Rattle.answer_core.specs.declared.outcome.Outcome.TheVariants.{BadVers, Error, Negative, Positive, Truncated}
 use Rattle.answer_core.specs.declared.way.Way.{Way}
 use Rattle.answer_core.specs.Limit.{limit_of}
 use Rattle.answer_core.specs.Sections.{resource, answers, authority, additional, count_of_opt}
@@ -20,7 +22,7 @@ abbrev pub alone : Head → ℕ → List ℕ
 alone h code = header h false false code (0 ∷ 0 ∷ 0 ∷ 0 ∷ [])
 
 -- a reply that repeats the question
-abbrev pub full : Zone → Request → Outcome → List ℕ
+abbrev pub full : Zone → Request → Outcome (List Addr) → List ℕ
 full z r outcome =
     let q = r.asked in
     header q.head (is_authoritative outcome) (is_truncated outcome) (rcode outcome) (1 ∷ length (answers z outcome) ∷ length (authority z q.name outcome) ∷ count_of_opt q.opt ∷ [])
@@ -30,7 +32,7 @@ full z r outcome =
     ++ additional q.opt r.subnet outcome
 
 -- what is replied where that has no room: no records
-abbrev pub cut_short : Outcome → Outcome
+abbrev pub cut_short : {T : Type 0} → Outcome T → Outcome T
 cut_short BadVers = BadVers
 cut_short (Error code) = Error code
 cut_short (Negative code) = Negative code
@@ -38,7 +40,7 @@ cut_short (Positive records scope) = Truncated scope
 cut_short (Truncated scope) = Truncated scope
 
 -- an outcome whose reply may have so many octets
-abbrev pub fitted : ℕ → Zone → Request → Outcome → Outcome
+abbrev pub fitted : ℕ → Zone → Request → Outcome (List Addr) → Outcome (List Addr)
 fitted limit z r outcome = if nat_le (length (full z r outcome)) limit then outcome else cut_short outcome
 
 -- the reply to a query that can be read

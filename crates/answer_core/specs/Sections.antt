@@ -9,7 +9,10 @@ use Rattle.dns_wire.specs.Message.{Extension}
 use Rattle.dns_wire.specs.Spelling.{record_of, opt, u32}
 use Rattle.topology_text.specs.declared.topology.Zone.{Zone}
 use Rattle.answer_core.specs.Columns.{extended, scope_told}
-use Rattle.answer_core.specs.Outcome.{Outcome, Records, BadVers, Error, Negative, Positive, Truncated, Soa, NameServers, Addresses}
+use Rattle.answer_core.specs.declared.outcome.Outcome.{Outcome}
+use Rattle.answer_core.specs.declared.outcome.Outcome.TheVariants.{BadVers, Error, Negative, Positive, Truncated}
+use Rattle.answer_core.specs.declared.outcome.Records.{Records}
+use Rattle.answer_core.specs.declared.outcome.Records.TheVariants.{Soa, NameServers, Addresses}
 
 -- a record of class IN whose name is a pointer
 pub record Resource : Type 0 where
@@ -53,13 +56,13 @@ abbrev pub negative_soa : Zone → List ℕ → Resource
 negative_soa z name = soa z (apex_name z name) (min z.ttl z.minimum)
 
 -- the records of a positive answer
-abbrev pub resources : Zone → Records → List Resource
+abbrev pub resources : Zone → Records (List Addr) → List Resource
 resources z Soa = soa z question_name z.ttl ∷ []
 resources z NameServers = map (server z.ttl) z.ns
 resources z (Addresses kind addresses) = map (address z.ttl kind) addresses
 
 -- the answers
-abbrev pub answers : Zone → Outcome → List Resource
+abbrev pub answers : Zone → Outcome (List Addr) → List Resource
 answers z BadVers = []
 answers z (Error code) = []
 answers z (Negative code) = []
@@ -67,7 +70,7 @@ answers z (Positive records scope) = resources z records
 answers z (Truncated scope) = []
 
 -- the authority, where that name was asked for
-abbrev pub authority : Zone → List ℕ → Outcome → List Resource
+abbrev pub authority : Zone → List ℕ → Outcome (List Addr) → List Resource
 authority z name BadVers = []
 authority z name (Error code) = []
 authority z name (Negative code) = negative_soa z name ∷ []
@@ -81,7 +84,7 @@ repeated (Some s) None = []
 repeated None told = []
 
 -- an OPT record where the query has one
-abbrev pub additional : Option Extension → Option SubnetOpt → Outcome → List ℕ
+abbrev pub additional : Option Extension → Option SubnetOpt → Outcome (List Addr) → List ℕ
 additional None subnet outcome = []
 additional (Some o) subnet outcome = opt (extended outcome) o.dnssec_ok (repeated subnet (scope_told outcome))
 

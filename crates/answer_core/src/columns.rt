@@ -4,10 +4,11 @@ ghost use Rattle.answer_core.specs.Columns.{extended, is_authoritative, is_trunc
 ghost use Rattle.answer_core.specs.View.{outcome_view};
 
 use crate::outcome::Outcome;
+use addr_text::Addr;
 use dns_wire::numbers::{BADVERS_UPPER, NOERROR};
 
 /// The flag AA.
-pub(crate) fn is_authoritative(outcome: &Outcome) -> bool
+pub(crate) fn is_authoritative(outcome: &Outcome<&[Addr]>) -> bool
     ensures { result ≡ is_authoritative (outcome_view outcome.now) }
 {
     match outcome {
@@ -17,7 +18,7 @@ pub(crate) fn is_authoritative(outcome: &Outcome) -> bool
 }
 
 /// The flag TC.
-pub(crate) fn is_truncated(outcome: &Outcome) -> bool
+pub(crate) fn is_truncated(outcome: &Outcome<&[Addr]>) -> bool
     ensures { result ≡ is_truncated (outcome_view outcome.now) }
 {
     match outcome {
@@ -28,7 +29,7 @@ pub(crate) fn is_truncated(outcome: &Outcome) -> bool
 }
 
 /// The reply's code (RFC 1035 section 4.1.1).
-pub(crate) fn rcode(outcome: &Outcome) -> u8
+pub(crate) fn rcode(outcome: &Outcome<&[Addr]>) -> u8
     ensures { result ≡ rcode (outcome_view outcome.now) }
 {
     match outcome {
@@ -38,7 +39,7 @@ pub(crate) fn rcode(outcome: &Outcome) -> u8
 }
 
 /// The upper part of the reply's code (RFC 6891 section 6.1.3).
-pub(crate) fn extended(outcome: &Outcome) -> u8
+pub(crate) fn extended(outcome: &Outcome<&[Addr]>) -> u8
     ensures { result ≡ extended (outcome_view outcome.now) }
 {
     match outcome {
@@ -51,7 +52,7 @@ pub(crate) fn extended(outcome: &Outcome) -> u8
 }
 
 /// The scope with which a subnet is repeated, where it is.
-pub(crate) fn scope_told(outcome: &Outcome) -> Option<u8>
+pub(crate) fn scope_told(outcome: &Outcome<&[Addr]>) -> Option<u8>
     ensures { result ≡ scope_told (outcome_view outcome.now) }
 {
     match outcome {

@@ -17,36 +17,35 @@ use dns_wire::numbers::{A, AAAA, ANY, FORMERR, IN, NOERROR, NS, NXDOMAIN, REFUSE
 use map_model::{GroupId, NodeId, Offer};
 use published_map::MapVersion;
 
-/// The records of a positive answer.
+/// The records of a positive answer. The addresses are a slice in the code, a list in clauses.
 #[derive(Clone, Copy)]
-pub(crate) enum Records<'a> {
+pub(crate) enum Records<T> {
     /// The zone's start of authority.
     Soa,
     /// The zone's name servers.
     NameServers,
-    /// The addresses of the picked pool, as records of one type.
-    Addresses { kind: u16, addresses: &'a [Addr] },
+    /// The addresses of the picked pool, as records of one type: A or AAAA.
+    Addresses { kind: u16, addresses: T },
 }
 
 /// What is replied to a query that can be read.
 #[derive(Clone, Copy)]
-pub(crate) enum Outcome<'a> {
+pub(crate) enum Outcome<T> {
     /// An EDNS version that is not spoken here (RFC 6891 section 6.1.3).
     BadVers,
-    /// An error: options that break their format, another class or zone, or nothing placed for the client's unit.
+    /// An error, by its RCODE: options that break their format, another class or zone, or nothing placed for the client's unit.
     Error(u8),
-    /// No such name, or no record of the type (RFC 2308 section 2).
+    /// No such name, or no record of the type, by its RCODE (RFC 2308 section 2).
     Negative(u8),
     /// Records, and the scope that is told where a subnet was given.
-    Positive { records: Records<'a>, scope: u8 },
+    Positive { records: Records<T>, scope: u8 },
     /// Records for which the reply has no room (RFC 2181 section 9): none of them, and the scope that is told.
     Truncated { scope: u8 },
 }
 
 /// What is replied where an outcome's reply has no room.
-pub(crate) fn cut_short<'a>(outcome: Outcome<'a>) -> Outcome<'a>
-    ensures exact { outcome_view result ≡ cut_short (outcome_view outcome.entry) }
-    ensures short { (size : ℕ) → IsShort size outcome.entry → IsShort size result }
+pub(crate) fn cut_short<'a>(outcome: Outcome<&'a [Addr]>) -> Outcome<&'a [Addr]>
+    ensures { outcome_view result ≡ cut_short (outcome_view outcome.entry) }
 {
     match outcome {
         Outcome::Positive { scope, .. } => Outcome::Truncated { scope },
@@ -111,12 +110,12 @@ fn answered_kind(kind: u16) -> Option<u16>
 }
 
 /// The addresses of a pool, of one type.
-fn at_pool<'v>(version: &'v MapVersion, pool: NodeId, kind: u16, scope: u8) -> Outcome<'v>
+fn at_pool<'v>(version: &'v MapVersion, pool: NodeId, kind: u16, scope: u8) -> Outcome<&'v [Addr]>
     requires pool { pool.0 < length version.now.plan.market.nodes }
     requires kind { (kind ≡ 1) ⊎ (kind ≡ 28) }
     ensures exact { outcome_view result
         ≡ of_addresses kind (addresses_of version.now.plan pool.0 kind) scope }
-    ensures short { (size : ℕ) → size ≤ 128 → IsShort size result }
+    ensures short { (size : ℕ) → size ≤ 128 → IsShort size (outcome_view result) }
 {
     let addresses = version.addresses(pool, kind);
     if addresses.is_empty() {
@@ -133,11 +132,11 @@ fn at_service<'v>(
     from: Addr,
     draw: u64,
     service: u8,
-) -> Outcome<'v>
+) -> Outcome<&'v [Addr]>
     requires { IsVersion version.now }
     ensures exact { outcome_view result
         ≡ at_service version.now (request_view request.now) from draw service }
-    ensures short { (size : ℕ) → size ≤ 128 → IsShort size result }
+    ensures short { (size : ℕ) → size ≤ 128 → IsShort size (outcome_view result) }
 {
     let Some(kind) = answered_kind(request.query.kind) else {
         return Outcome::Negative(NOERROR);
@@ -150,9 +149,9 @@ fn at_service<'v>(
 }
 
 /// The apex.
-fn at_apex<'v>(kind: u16) -> Outcome<'v>
+fn at_apex<'v>(kind: u16) -> Outcome<&'v [Addr]>
     ensures exact { outcome_view result ≡ at_apex kind }
-    ensures short { (size : ℕ) → size ≤ 64 → IsShort size result }
+    ensures short { (size : ℕ) → size ≤ 64 → IsShort size (outcome_view result) }
 {
     let records = match kind {
         SOA => Records::Soa,
@@ -163,10 +162,15 @@ fn at_apex<'v>(kind: u16) -> Outcome<'v>
 }
 
 /// The class and the name.
-fn by_name<'v>(version: &'v MapVersion, request: &Request, from: Addr, draw: u64) -> Outcome<'v>
+fn by_name<'v>(
+    version: &'v MapVersion,
+    request: &Request,
+    from: Addr,
+    draw: u64,
+) -> Outcome<&'v [Addr]>
     requires { IsVersion version.now }
     ensures exact { outcome_view result ≡ by_name version.now (request_view request.now) from draw }
-    ensures short { IsShort (length request.now.query.now.name.now) result }
+    ensures short { IsShort (length request.now.query.now.name.now) (outcome_view result) }
 {
     let zone = version.zone();
     let query = request.query;
@@ -188,11 +192,11 @@ pub(crate) fn decide<'v>(
     request: &Request,
     from: Addr,
     draw: u64,
-) -> Outcome<'v>
+) -> Outcome<&'v [Addr]>
     requires { IsVersion version.now }
     ensures exact { outcome_view result
         ≡ outcome_of version.now (request_view request.now) from draw }
-    ensures short { IsShort (length request.now.query.now.name.now) result }
+    ensures short { IsShort (length request.now.query.now.name.now) (outcome_view result) }
 {
     match request.fault {
         Some(QueryFault::Version) => Outcome::BadVers,

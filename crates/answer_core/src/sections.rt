@@ -12,7 +12,7 @@ ghost use Rattle.name_text.specs.declared.name.TheConstants.{LONGEST_NAME};
 ghost use Rattle.topology_text.specs.Plan.{IsZone};
 ghost use Rattle.answer_core.specs.Columns as columns;
 ghost use Rattle.answer_core.specs.Sections as spec;
-ghost use Rattle.answer_core.specs.View.{AreFew, IsFew, outcome_view, records_view};
+ghost use Rattle.answer_core.specs.View.{AreShort, IsShort, outcome_view, records_view};
 
 use crate::columns::{extended, scope_told};
 use crate::outcome::{Outcome, Records};
@@ -72,7 +72,7 @@ fn write_addresses(out: &mut ReplyBuffer, ttl: u32, kind: u16, addresses: &[Addr
 }
 
 /// Writes the records of a positive answer.
-fn write_records(out: &mut ReplyBuffer, zone: &Zone, records: &Records)
+fn write_records(out: &mut ReplyBuffer, zone: &Zone, records: &Records<&[Addr]>)
     requires zone { IsZone zone.now }
     requires room { HasRoom (array_vec_len out.old)
         (length (flat_map spec.resource (spec.resources zone.now (records_view records.now)))) }
@@ -89,7 +89,7 @@ fn write_records(out: &mut ReplyBuffer, zone: &Zone, records: &Records)
 }
 
 /// Writes the answers of a reply.
-pub(crate) fn write_answers(out: &mut ReplyBuffer, zone: &Zone, outcome: &Outcome)
+pub(crate) fn write_answers(out: &mut ReplyBuffer, zone: &Zone, outcome: &Outcome<&[Addr]>)
     requires zone { IsZone zone.now }
     requires room { HasRoom (array_vec_len out.old)
         (length (flat_map spec.resource (spec.answers zone.now (outcome_view outcome.now)))) }
@@ -104,7 +104,12 @@ pub(crate) fn write_answers(out: &mut ReplyBuffer, zone: &Zone, outcome: &Outcom
 }
 
 /// Writes the authority of a reply to a query for a name: the SOA record of a negative answer (RFC 2308 section 3).
-pub(crate) fn write_authority(out: &mut ReplyBuffer, zone: &Zone, name: &[u8], outcome: &Outcome)
+pub(crate) fn write_authority(
+    out: &mut ReplyBuffer,
+    zone: &Zone,
+    name: &[u8],
+    outcome: &Outcome<&[Addr]>,
+)
     requires zone { IsZone zone.now }
     requires name { length name.now ≤ LONGEST_NAME }
     requires room { HasRoom (array_vec_len out.old)
@@ -149,7 +154,7 @@ fn write_extension(
 }
 
 /// Writes the OPT record of a reply, where the query has one.
-pub(crate) fn write_additional(out: &mut ReplyBuffer, request: &Request, outcome: &Outcome)
+pub(crate) fn write_additional(out: &mut ReplyBuffer, request: &Request, outcome: &Outcome<&[Addr]>)
     requires form { IfSome request.now.subnet IsSubnet }
     requires room { HasRoom (array_vec_len out.old)
         (length (spec.additional (option_map extension request.now.query.now.opt) request.now.subnet
@@ -170,8 +175,8 @@ pub(crate) fn write_additional(out: &mut ReplyBuffer, request: &Request, outcome
 }
 
 /// How many records a positive answer has.
-fn count_of_records(zone: &Zone, records: &Records) -> u16
-    requires short { AreFew records.now }
+fn count_of_records(zone: &Zone, records: &Records<&[Addr]>) -> u16
+    requires short { AreShort 0 (records_view records.now) }
     requires zone { IsZone zone.now }
     ensures { result ≡ length (spec.resources zone.now (records_view records.now)) }
 {
@@ -183,8 +188,8 @@ fn count_of_records(zone: &Zone, records: &Records) -> u16
 }
 
 /// How many answers a reply has.
-pub(crate) fn count_of_answers(zone: &Zone, outcome: &Outcome) -> u16
-    requires short { IsFew outcome.now }
+pub(crate) fn count_of_answers(zone: &Zone, outcome: &Outcome<&[Addr]>) -> u16
+    requires short { IsShort 0 (outcome_view outcome.now) }
     requires zone { IsZone zone.now }
     ensures { result ≡ length (spec.answers zone.now (outcome_view outcome.now)) }
 {
@@ -196,7 +201,7 @@ pub(crate) fn count_of_answers(zone: &Zone, outcome: &Outcome) -> u16
 }
 
 /// How many records the authority of a reply has.
-pub(crate) fn count_of_authority(zone: &Zone, name: &[u8], outcome: &Outcome) -> u16
+pub(crate) fn count_of_authority(zone: &Zone, name: &[u8], outcome: &Outcome<&[Addr]>) -> u16
     ensures { result ≡ length (spec.authority zone.now name.now (outcome_view outcome.now)) }
 {
     match outcome {

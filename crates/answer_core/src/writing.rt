@@ -5,7 +5,7 @@ ghost use Rattle.client_subnet.specs.View.{IsSubnet};
 ghost use Rattle.dns_wire.specs.Room.{reply_size};
 ghost use Rattle.topology_text.specs.Plan.{IsZone};
 ghost use Rattle.answer_core.specs.Reply.{alone, full};
-ghost use Rattle.answer_core.specs.View.{IsFew, outcome_view, request_view};
+ghost use Rattle.answer_core.specs.View.{IsShort, outcome_view, request_view};
 
 use crate::columns::{is_authoritative, is_truncated, rcode};
 use crate::outcome::Outcome;
@@ -13,6 +13,7 @@ use crate::request::Request;
 use crate::sections::{
     count_of_answers, count_of_authority, write_additional, write_answers, write_authority,
 };
+use addr_text::Addr;
 use dns_wire::{Head, ReplyBuffer, write_head, write_question};
 use topology_text::Zone;
 
@@ -25,12 +26,17 @@ pub(crate) fn write_alone(out: &mut ReplyBuffer, head: &Head, rcode: u8)
 }
 
 /// Writes a reply that repeats the question.
-pub(crate) fn write_full(out: &mut ReplyBuffer, zone: &Zone, request: &Request, outcome: &Outcome)
+pub(crate) fn write_full(
+    out: &mut ReplyBuffer,
+    zone: &Zone,
+    request: &Request,
+    outcome: &Outcome<&[Addr]>,
+)
     requires empty { out.old.items ≡ [] }
     requires zone { IsZone zone.now }
     requires name { IsName request.now.query.now.name.now }
     requires form { IfSome request.now.subnet IsSubnet }
-    requires few { IsFew outcome.now }
+    requires few { IsShort 0 (outcome_view outcome.now) }
     requires room { length (full zone.now (request_view request.now) (outcome_view outcome.now))
         ≤ reply_size }
     ensures { out.new.items ≡ full zone.now (request_view request.now) (outcome_view outcome.now) }

@@ -1,12 +1,12 @@
 -- Where a unit leads on that leaves a node.
-use Rattle.std.proofs.Common.{◌≡◌, ℕ, ◌<◌, true, List, length, Option, None, Some, IfSome, slice_index, rules, false, sym, ap, ◌∙◌, subst, inl, inr, arith}
+use Rattle.std.proofs.Common.{◌≡◌, ℕ, ◌<◌, true, List, length, Option, None, Some, IfSome, slice_index, false, sym, ap, ◌∙◌, subst, inl, inr, arith}
 use Rattle.std.proofs.lemmas.Bool.{cases_lt, false≢true}
 use Rattle.std.proofs.lemmas.List.{get_or_past}
 use Rattle.map_model.specs.declared.instance.Node.{Node}
 use Rattle.map_model.specs.declared.instance.NodeId.{NodeId}
 use Rattle.map_model.specs.declared.lines.MapLine.{MapLine}
 use Rattle.map_model.specs.Market.{Market, IsMarket, demand_of, is_pool_at, limit_of, pool_of}
-use Rattle.map_model.specs.Allocation.{IsOffer, placed}
+use Rattle.map_model.specs.Allocation.{placed}
 use Rattle.map_laws.specs.Circles.{IsCircleFree, IsLastPlace, IsNextInLine}
 use Rattle.map_laws.proofs.Nearest.{next_one}
 use Rattle.best_check.specs.declared.ranked.Ranked.{Ranked}

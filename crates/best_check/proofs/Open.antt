@@ -6,8 +6,8 @@ use Rattle.map_model.specs.declared.lines.MapLine.{MapLine}
 use Rattle.map_model.specs.Market.{Market, demand_of}
 use Rattle.map_model.specs.Allocation.{amount_at, placed, placed_through}
 use Rattle.map_model.proofs.Units.{placed_through-split, through-le-placed, units_of-le}
-use Rattle.evict.specs.Standing.{IsOpen, IsReady, Standing}
-use Rattle.best_check.specs.Open.{AreRefused, AreWanted}
+use Rattle.evict.specs.Standing.{IsOpen, Standing}
+use Rattle.best_check.specs.Open.{AreWanted}
 
 -- what a group has up to one place and at a later one is among all that it has
 through_and_later : (lines : List MapLine) (g k p : ℕ) → k < p → placed_through lines g k + amount_at lines g p ≤ placed lines g

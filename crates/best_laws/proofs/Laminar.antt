@@ -22,6 +22,51 @@ pub record IsClosed (m : Market) (lines : List MapLine) (c : ℕ) (key : Key) (n
   pub full : units_of (counts_at m n) lines ≡ capacity_of m n
   pub above : units_of (λ g k. counts_at m n g k && key_le key (key_of m g k)) lines ≡ 0
 
+pub IsClosed-from : (m : Market) (lines : List MapLine) (c : ℕ) (key : Key) (n : ℕ) → is_closed m lines c key n ≡ true → IsClosed m lines c key n
+unfolding is_closed
+IsClosed-from m lines c key n h =
+    let p = and_parts _ _ h in
+    let q = and_parts _ _ p.0 in
+    let r = and_parts _ _ p.1 in
+    record {
+      below = q.0;
+      apart = λ e. differ (n == c) q.1 (eq-eqb n c e);
+      full = eqb-true _ _ r.0;
+      above = eqb-true _ _ r.1;
+    }
+  where
+    differ : (b : Bool) → not b ≡ true → b ≡ true → ⊥
+    differ true h e = false≢true h
+    differ false h e = false≢true e
+
+at_from : (o : Option ℕ) (n : ℕ) → is_at o n ≡ true → o ≡ Some n
+at_from None n h = absurd (false≢true h)
+at_from (Some t) n h = ap Some (eqb-true t n h)
+
+at_to : (o : Option ℕ) (n : ℕ) → o ≡ Some n → is_at o n ≡ true
+at_to o n e = ap (λ o. is_at o n) e ∙ eq-eqb n n refl
+
+units_of-none : (p : ℕ → ℕ → Bool) → ((g k : ℕ) → p g k ≡ true → ⊥) → (lines : List MapLine) → units_of p lines ≡ 0
+units_of-none p none [] = refl
+units_of-none p none (l ∷ ls) = omega (arith, sum_by-cons (λ (x : MapLine). if p x.group.0 x.place then x.amount else 0) l ls, one (p l.group.0 l.place) l.amount (none l.group.0 l.place), units_of-none p none ls)
+  where
+    one : (b : Bool) (a : ℕ) → (b ≡ true → ⊥) → (if b then a else 0) ≡ 0
+    one true a h = absurd (h refl)
+    one false a h = refl
+
+-- units split by a test
+units_of-parts : (p q : ℕ → ℕ → Bool) (lines : List MapLine) → units_of p lines ≡ units_of (λ g k. p g k && q g k) lines + units_of (λ g k. p g k && not (q g k)) lines
+units_of-parts p q lines = sum_by-add _ _ _ (λ l. one (p l.group.0 l.place) (q l.group.0 l.place) l.amount) lines
+  where
+    one : (b d : Bool) (a : ℕ) → (if b then a else 0) ≡ (if b && d then a else 0) + (if b && not d then a else 0)
+    one true true a = omega arith
+    one true false a = omega arith
+    one false d a = omega arith
+
+not_is : (b : Bool) → not b ≡ true → b ≡ false
+not_is true h = absurd (false≢true h)
+not_is false h = refl
+
 module _ (m : Market) (market : IsMarket m) (ours theirs : List MapLine) (c h j size : ℕ) where
   -- the units in question: under c, ranked at least as high as (h, j)
   abbrev counts : ℕ → ℕ → Bool

@@ -3,12 +3,12 @@ use Rattle.std.proofs.Common.{◌≡◌, ℕ, ◌<◌, ◌≤◌, ◌==◌, ◌&
 use Rattle.std.proofs.lemmas.Bool.{and_parts, cases_Bool, eq-eqb, eqb-true}
 use Rattle.map_model.specs.declared.lines.MapLine.{MapLine}
 use Rattle.map_model.specs.Market.{Market, IsMarket}
-use Rattle.map_model.specs.Allocation.{IsOffer, amount_at, placed_through}
+use Rattle.map_model.specs.Allocation.{amount_at}
 use Rattle.map_model.specs.Progress.{IsResumable}
 use Rattle.evict.specs.declared.freed.Eviction.{Eviction}
 use Rattle.evict.specs.Standing.{CanPut, IsFresh, IsPut, IsReady, Standing}
 use Rattle.best_laws.specs.Ahead.{GainsFree, IsAhead, IsRightMap, IsWithin}
-use Rattle.best_laws.proofs.Wants.{no_more_refused, through_le, wants_less}
+use Rattle.best_laws.proofs.Wants.{no_more_refused, wants_less}
 
 -- from one resumable state to another in which offers gained at pointers what was free
 pub within_next : (m : Market) → IsMarket m → (old new other : List MapLine) (was free now left : List ℕ) → IsResumable m old was free → IsResumable m new now left → GainsFree m old new was free → IsRightMap m other → IsWithin m other old was → IsWithin m other new now

@@ -14,8 +14,10 @@ use Rattle.dns_wire.specs.Message.{query_in, reading}
 use Rattle.dns_wire.specs.Wire.{name_len, records_in}
 use Rattle.answer_core.specs.Columns.{rcode}
 use Rattle.answer_core.specs.Grammar.{Query, Request, datagram_of}
-use Rattle.answer_core.specs.Outcome.{Outcome, BadVers, Error, Negative, Positive, Truncated, by_name, of_addresses, of_pool, pool_for, service_of}
+use Rattle.answer_core.specs.Outcome.{by_name, of_addresses, of_pool, pool_for, service_of}
 use Rattle.answer_core.specs.Reply.{cut_short, fitted, full, reply_to}
+use Rattle.answer_core.specs.declared.outcome.Outcome.{Outcome}
+use Rattle.answer_core.specs.declared.outcome.Outcome.TheVariants.{BadVers, Error, Negative, Positive, Truncated}
 use Rattle.answer_core.specs.declared.way.Way.TheVariants as way
 use Rattle.mapper.specs.Words.{reply_by}
 use Rattle.big_run.specs.Replies.{client_of, count_of, has_code, is_code_of, is_reply_of, question}
@@ -67,18 +69,18 @@ code_at v kind scope (Some pool) = go (addresses_of v.plan pool kind)
     go (a ∷ more) = inl refl
 
 -- the fourth octet of the reply holds the code
-code_told : (z : Zone) (outcome : Outcome) (code : ℕ) → is_code_of code (full z request outcome) ≡ (rcode outcome % 16 % 16 == code)
+code_told : (z : Zone) (outcome : Outcome (List Addr)) (code : ℕ) → is_code_of code (full z request outcome) ≡ (rcode outcome % 16 % 16 == code)
 code_told z outcome code = refl
 
 -- what is cut short has the same code
-code_kept : (o : Outcome) → rcode (cut_short o) ≡ rcode o
+code_kept : (o : Outcome (List Addr)) → rcode (cut_short o) ≡ rcode o
 code_kept BadVers = refl
 code_kept (Error code) = refl
 code_kept (Negative code) = refl
 code_kept (Positive records scope) = refl
 code_kept (Truncated scope) = refl
 
-code_fitted : (fits : Bool) (o : Outcome) → rcode (if fits then o else cut_short o) ≡ rcode o
+code_fitted : (fits : Bool) (o : Outcome (List Addr)) → rcode (if fits then o else cut_short o) ≡ rcode o
 code_fitted true o = refl
 code_fitted false o = code_kept o
 

@@ -23,6 +23,21 @@ use Rattle.evict.proofs.Worst.{worst_key, worst_none}
 use Rattle.deferred_accept.specs.declared.bars.Bar.{Bar}
 use Rattle.deferred_accept.specs.Bars.{AreBars, IsBarAt, IsBarTable}
 
+zero_least : (n : ℕ) → is_le (nat_cmp 0 n) ≡ true
+zero_least zero = refl
+zero_least (suc n) = ap (λ t. is_le (cond t Less (cond (0 == suc n) Equal Greater))) (lt-ltb 0 (suc n) (omega arith))
+
+both_least : (a b c : Ordering) → is_le a ≡ true → is_le b ≡ true → is_le c ≡ true → is_le (ordering_then a (ordering_then b c)) ≡ true
+both_least Less b c x y z = refl
+both_least Equal Less c x y z = refl
+both_least Equal Equal c x y z = z
+both_least Equal Greater c x y z = y
+both_least Greater b c x y z = x
+
+-- no key is ranked above the first one
+pub first_le : (key : Key) → key_le (record { score = 0; group = record { 0 = 0 }; pool = record { 0 = 0 } }) key ≡ true
+first_le key = both_least (nat_cmp 0 key.score) (nat_cmp 0 key.group.0) (nat_cmp 0 key.pool.0) (zero_least key.score) (zero_least key.group.0) (zero_least key.pool.0)
+
 -- the ranks from which on a node refuses, if it is full
 module _ (from m : Market) (shape : IsSameShape from m) (lines : List MapLine) (form : AreLines m lines) (n : ℕ) where
   form_from : AreLines from lines
@@ -106,6 +121,45 @@ from_table m lines bars table (Some n) found there is = go found (subst (IsBarAt
 pub within_table : (m : Market) (lines : List MapLine) (bars : List (Option Bar)) → IsBarTable m lines bars → (at : Option NodeId) → IfSome at (λ n. n.0 < length m.nodes) → IfSome at (λ n. n.0 < length bars)
 within_table m lines bars table None there = tt
 within_table m lines bars table (Some n) there = let low : n.0 < length bars = omega (arith, there, table.size) in low
+
+some_one : (a b : ℕ) → Some a ≡ Some b → a ≡ b
+some_one a b e = cc
+
+none_some : (a : ℕ) → None ≡ Some a → ⊥
+none_some a e = cc
+
+some_none : (a : ℕ) → Some a ≡ None → ⊥
+some_none a e = cc
+
+-- where no node of a list passes a test, none passes it and another one
+none_passes : (full worse : ℕ → Bool) (ns : List ℕ) → find full ns ≡ None → find (λ n. full n && worse n) ns ≡ None
+none_passes full worse [] is = refl
+none_passes full worse (n ∷ ns) is = elim (cases_Bool (full n)) [
+  | inl y ↦ absurd (some_none n (sym (ap (λ t. if t then Some n else find full ns) y) ∙ is))
+  | inr room ↦ ap (λ t. if t && worse n then Some n else find (λ x. full x && worse x) ns) room ∙ none_passes full worse ns (sym (ap (λ t. if t then Some n else find full ns) room) ∙ is)
+]
+
+-- the first node of a climb that passes two tests is the first one that passes the one, or comes behind it
+hop : (m : Market) (full worse : ℕ → Bool) (steps : ℕ) (at : Option NodeId) (b : ℕ) → steps ≤ 8 → length (climb (suc steps) m at) ≤ steps → find full (climb steps m at) ≡ Some b
+    → find (λ n. full n && worse n) (climb steps m at) ≡ (if worse b then Some b else find (λ n. full n && worse n) (climb 8 m (parent_of m b)))
+unfolding climb
+hop m full worse zero at b few short is = absurd (none_some b is)
+hop m full worse (suc steps) None b few short is = absurd (none_some b is)
+hop m full worse (suc steps) (Some p) b few short is = elim (cases_Bool (full p.0)) [
+  | inl y ↦
+      let same : p.0 ≡ b = some_one p.0 b (sym (ap (λ t. if t then Some p.0 else find full (climb steps m (parent_of m p.0))) y) ∙ is) in
+      let rest : climb steps m (parent_of m p.0) ≡ climb 8 m (parent_of m p.0) = sym (climb_settled m steps 8 (parent_of m p.0) (omega (arith, few)) (omega (arith, short))) in
+      subst (λ x. find (λ n. full n && worse n) (climb (suc steps) m (Some p)) ≡ (if worse x then Some x else find (λ n. full n && worse n) (climb 8 m (parent_of m x)))) same
+      (ap (λ t. if t && worse p.0 then Some p.0 else find (λ n. full n && worse n) (climb steps m (parent_of m p.0))) y ∙ ap (λ ns. if worse p.0 then Some p.0 else find (λ n. full n && worse n) ns) rest)
+  | inr room ↦
+      ap (λ t. if t && worse p.0 then Some p.0 else find (λ n. full n && worse n) (climb steps m (parent_of m p.0))) room
+      ∙ hop m full worse steps (parent_of m p.0) b (omega (arith, few)) (omega (arith, short)) (sym (ap (λ t. if t then Some p.0 else find full (climb steps m (parent_of m p.0))) room) ∙ is)
+]
+
+-- a climb that begins at a node of the instance is over behind eight
+short_from : (m : Market) → IsMarket m → (at : Option NodeId) → IfSome at (λ n. n.0 < length m.nodes) → length (climb 9 m at) ≤ 8
+short_from m market None there = subst (λ (ns : List ℕ). length ns ≤ 8) (sym (climb_none m 9)) (omega arith)
+short_from m market (Some n) there = market.shallow n.0 there
 
 module _ (m : Market) (market : IsMarket m) (lines : List MapLine) (key : Key) (at : Option NodeId) (there : IfSome at (λ n. n.0 < length m.nodes)) where
   -- where the first full node refuses, it is the refusing node

@@ -2,12 +2,12 @@
 use Rattle.std.proofs.Common.{ℕ, zero, suc, List, refl, sym, subst, slice_index}
 use Rattle.map_model.specs.declared.lines.MapLine.{MapLine}
 use Rattle.map_model.specs.Market.{Market}
-use Rattle.map_model.specs.Allocation.{IsStable, names_of}
+use Rattle.map_model.specs.Allocation.{names_of}
 use Rattle.map_model.specs.Progress.{IsEnded, IsGroupBest}
-use Rattle.evict.specs.Standing.{IsFresh, IsReady, Standing}
+use Rattle.evict.specs.Standing.{IsReady, Standing}
 use Rattle.best_laws.specs.Ahead.{IsAhead, IsRightMap, IsWithin}
 use Rattle.best_laws.proofs.Ended.{best_of_stable}
-use Rattle.best_laws.proofs.Step.{ahead_fresh, within_moved, within_put}
+use Rattle.best_laws.proofs.Step.{within_moved, within_put}
 use Rattle.deferred_accept.specs.Runs.{AreProposals, AreSkips, IsProposal, offered}
 use Rattle.deferred_accept.proofs.Finished.{finished}
 use Rattle.deferred_accept.proofs.Many.{can_propose, ready_many}

@@ -1,6 +1,5 @@
 -- Whole rounds of a circle are as many proposals as hops were made.
-use Rattle.std.proofs.Common.{◌≡◌, ℕ, ◌+◌, ◌-◌, ◌*◌, ◌^◌, ◌<◌, ◌≤◌, nat_lt, if◌then◌else◌, List, ◌∷◌, length, refl, sym, ap, ◌∙◌, subst, arith}
-use Rattle.std.proofs.lemmas.Bool.{lt-ltb}
+use Rattle.std.proofs.Common.{◌≡◌, ℕ, ◌+◌, ◌-◌, ◌*◌, ◌^◌, ◌<◌, ◌≤◌, nat_lt, if◌then◌else◌, List, ◌∷◌, length, sym, ◌∙◌, subst}
 use Rattle.map_model.specs.Market.{Market}
 use Rattle.evict.specs.Standing.{IsReady, Standing}
 use Rattle.deferred_accept.specs.declared.circle.Hop.{Hop}

@@ -1,17 +1,14 @@
 -- One proposal of a run.
-use Rattle.std.proofs.Common.{◌≡◌, ℕ, ◌+◌, ◌<◌, ◌≤◌, ◌==◌, Bool, true, false, ◌&&◌, ◌||◌, nat_le, if◌then◌else◌, List, [], ◌∷◌, length, take, get_or, slice_index, slice_set, refl, sym, ap, ◌∙◌, subst, inl, inr, arith}
-use Rattle.std.proofs.lemmas.Bool.{and_parts, cases_Bool, cases_eq, eq-eqb, eqb-true, ne_eqb, or_cases, false≢true, leb-true, or_parts, or_left, or_right}
-use Rattle.std.proofs.lemmas.List.Folds.{list_any_more}
-use Rattle.std.proofs.lemmas.List.{get_or-set_other, length-set}
+use Rattle.std.proofs.Common.{◌≡◌, ℕ, ◌+◌, ◌<◌, ◌≤◌, ◌==◌, Bool, true, false, ◌&&◌, ◌||◌, nat_le, if◌then◌else◌, List, [], ◌∷◌, length, slice_index, slice_set, refl, sym, ap, ◌∙◌, inl, inr, arith}
+use Rattle.std.proofs.lemmas.Bool.{and_parts, cases_Bool, cases_eq, eqb-true, or_cases, leb-true, or_parts, or_left, or_right}
+use Rattle.std.proofs.lemmas.List.{get_or-set_other}
 use Rattle.std.proofs.lemmas.Grind.{get_or-set_at}
 use Rattle.std.proofs.lemmas.List.Sums.{sum_by-cons}
-use Rattle.std.proofs.Math.Bool.{or-false}
 use Rattle.map_model.specs.Market.{Market}
 use Rattle.map_model.specs.Allocation.{IsOffer, placed_through}
-use Rattle.map_model.specs.Progress.{IsEnded}
 use Rattle.evict.specs.declared.freed.Eviction.{Eviction}
 use Rattle.evict.specs.Evictions.{freed_units, gave_up}
-use Rattle.evict.specs.Standing.{CanPut, IsPut, IsReady, Standing}
+use Rattle.evict.specs.Standing.{CanPut, IsPut, Standing}
 use Rattle.deferred_accept.specs.Runs.{HasRun, most_proposals, proposals_of, IsWaiting}
 use Rattle.deferred_accept.specs.Work.{CoversRest, CoversWork, gave_any, is_on, worth, worth_of}
 use Rattle.best_laws.proofs.Sums.{sum-le, sum-lt}

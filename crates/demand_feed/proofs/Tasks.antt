@@ -103,3 +103,8 @@ by_said_number t ledger (Ok stop) = refl
 
 pub step_number : (t : Plan) (ledger : Ledger) (line : List ℕ) → (step t ledger line).ledger.number ≡ ledger.number + 1
 step_number t ledger line = unfold step in by_said_number t (record ledger { number = ledger.number + 1 }) (line_of line)
+
+-- each line is counted
+pub number_after : (t : Plan) (ledger : Ledger) (lines : List (List ℕ)) → (ledger_after t ledger lines).number ≡ ledger.number + length lines
+number_after t ledger [] = omega arith
+number_after t ledger (l ∷ ls) = omega (arith, number_after t (step t ledger l).ledger ls, step_number t ledger l)

@@ -205,12 +205,162 @@ module _ {T : Type 0} (t : Plan) (turns : ℕ) (told : T → DeviceState Fed) wh
       let rest = all_stand xs ys fs gs (λ k. none (suc k)) r.1 in
       cc (first, rest)
 
+-- of the feeder at a place, by its number
+place : (taken : List Item) (k : ℕ) (gs : List FeederState) → AreNumbered k gs → AreBegun taken gs → (i : ℕ) → i < length gs → IsPrefix (sent_by (k + i) taken) (sent_at gs i) × EndsLast (sent_at gs i)
+place taken k [] n b i l = absurd (omega (arith, l))
+place taken k (g ∷ gs) n b zero l =
+    let is : g.feeder ≡ k + 0 = n.0 ∙ omega arith in
+    (subst (λ (j : ℕ). IsPrefix (sent_by j taken) g.sent) is b.0.0, b.0.1)
+place taken k (g ∷ gs) n b (suc i) l =
+    let r = place taken (k + 1) gs n.1 b.1 i (omega (arith, l)) in
+    let is : k + 1 + i ≡ k + suc i = omega arith in
+    (subst (λ (j : ℕ). IsPrefix (sent_by j taken) (sent_at gs i)) is r.0, r.1)
+
+-- all that feeders sent was taken
+pub all_whole : (groups nodes : ℕ) (taken : List Item) (gs : List FeederState) → AreTaken groups nodes (length gs) taken → AreNumbered 0 gs → AreBegun taken gs → ends_in taken ≡ length gs → (k : ℕ) → k < length gs → sent_by k taken ≡ sent_at gs k
+all_whole groups nodes taken gs are n b all = all_is_taken groups nodes (length gs) taken (sent_at gs) are (λ k l. let r = place taken 0 gs n b k l in let z : 0 + k ≡ k = omega arith in (subst (λ (j : ℕ). IsPrefix (sent_by j taken) (sent_at gs k)) z r.0, r.1)) all
+
+-- a fault of a source among what was sent
+abbrev pub has_fault : List What → Bool
+has_fault ws = list_any is_source_fault ws
+
+or_left : (a b : Bool) → a ≡ true → a || b ≡ true
+or_left true b e = refl
+or_left false b e = absurd (true≢false (sym e))
+
+or_right : (a b : Bool) → b ≡ true → a || b ≡ true
+or_right true b e = refl
+or_right false b e = e
+
+or_one : (a b : Bool) → a || b ≡ true → (a ≡ true) ⊎ (b ≡ true)
+or_one true b e = inl refl
+or_one false b e = inr e
+
+is_fault : (w : What) → is_source_fault w ≡ true → w ≡ what.End ends.SourceFault
+is_fault (what.Refused number why) e = absurd (true≢false (sym e))
+is_fault (what.Commit changes) e = absurd (true≢false (sym e))
+is_fault what.Memory e = absurd (true≢false (sym e))
+is_fault what.Empty e = absurd (true≢false (sym e))
+is_fault (what.Lines lines) e = absurd (true≢false (sym e))
+is_fault (what.Ask addr octets) e = absurd (true≢false (sym e))
+is_fault what.Show e = absurd (true≢false (sym e))
+is_fault (what.End ends.Ended) e = absurd (true≢false (sym e))
+is_fault (what.End ends.SourceFault) e = refl
+is_fault (what.End ends.SinkFault) e = absurd (true≢false (sym e))
+is_fault (what.End ends.Spent) e = absurd (true≢false (sym e))
+is_fault (what.End ends.NoMemory) e = absurd (true≢false (sym e))
+
+-- among those of one feeder it is among all
+any_in : (k : ℕ) (items : List Item) → has_fault (sent_by k items) ≡ true → has_one is_source_fault items ≡ true
+any_in k [] e = e
+any_in k (x ∷ xs) e = go (any_in k xs) (x.feeder == k) e
+  where
+    first : (has_fault (sent_by k xs) ≡ true → has_one is_source_fault xs ≡ true) → (is_source_fault x.what ≡ true) ⊎ (has_fault (sent_by k xs) ≡ true) → has_one is_source_fault (x ∷ xs) ≡ true
+    first rest (inl h) = or_left (is_source_fault x.what) (has_one is_source_fault xs) h
+    first rest (inr h) = or_right (is_source_fault x.what) (has_one is_source_fault xs) (rest h)
+
+    go : (has_fault (sent_by k xs) ≡ true → has_one is_source_fault xs ≡ true) → (b : Bool) → has_fault (map (λ (y : Item). y.what) (cond b (x ∷ only k xs) (only k xs))) ≡ true → has_one is_source_fault (x ∷ xs) ≡ true
+    go rest true h = first rest (or_one (is_source_fault x.what) (has_fault (sent_by k xs)) h)
+    go rest false h = or_right (is_source_fault x.what) (has_one is_source_fault xs) (rest h)
+
+-- among all it is among those of some feeder
+one_in : (items : List Item) → has_one is_source_fault items ≡ true → (k : ℕ) × (has_fault (sent_by k items) ≡ true)
+one_in [] e = absurd (true≢false (sym e))
+one_in (x ∷ xs) e = pick (one_in xs) (or_one (is_source_fault x.what) (has_one is_source_fault xs) e)
+  where
+    here : (b : Bool) → b ≡ true → is_source_fault x.what ≡ true → has_fault (map (λ (y : Item). y.what) (cond b (x ∷ only x.feeder xs) (only x.feeder xs))) ≡ true
+    here true same h = or_left (is_source_fault x.what) (has_fault (sent_by x.feeder xs)) h
+    here false same h = absurd (true≢false (sym same))
+
+    later : (k : ℕ) (b : Bool) → has_fault (sent_by k xs) ≡ true → has_fault (map (λ (y : Item). y.what) (cond b (x ∷ only k xs) (only k xs))) ≡ true
+    later k true h = or_right (is_source_fault x.what) (has_fault (sent_by k xs)) h
+    later k false h = h
+
+    pick : (has_one is_source_fault xs ≡ true → (k : ℕ) × (has_fault (sent_by k xs) ≡ true)) → (is_source_fault x.what ≡ true) ⊎ (has_one is_source_fault xs ≡ true) → (k : ℕ) × (has_fault (sent_by k (x ∷ xs)) ≡ true)
+    pick rest (inl h) = (x.feeder, here (x.feeder == x.feeder) (eq-eqb x.feeder x.feeder refl) h)
+    pick rest (inr h) = let r = rest h in (r.0, later r.0 (x.feeder == r.0) r.1)
+
+-- what has its end last has no fault of a source ahead of that
+fault_last : (ws : List What) → EndsLast ws → has_fault ws ≡ true → EndsWith ws ends.SourceFault
+fault_last [] h e = absurd h
+fault_last (w ∷ []) h e = one (or_one (is_source_fault w) false e)
+  where
+    one : (is_source_fault w ≡ true) ⊎ (false ≡ true) → EndsWith (w ∷ []) ends.SourceFault
+    one (inl f) = ([], ap (λ (v : What). v ∷ []) (is_fault w f))
+    one (inr f) = absurd (true≢false (sym f))
+fault_last (w ∷ v ∷ ws) h e = one (fault_last (v ∷ ws) h.1) (or_one (is_source_fault w) (has_fault (v ∷ ws)) e)
+  where
+    one : (has_fault (v ∷ ws) ≡ true → EndsWith (v ∷ ws) ends.SourceFault) → (is_source_fault w ≡ true) ⊎ (has_fault (v ∷ ws) ≡ true) → EndsWith (w ∷ v ∷ ws) ends.SourceFault
+    one rest (inl f) = absurd (true≢false (sym (ap is_end (is_fault w f)) ∙ h.0))
+    one rest (inr f) = let r = rest f in (w ∷ r.0, ap (λ (us : List What). w ∷ us) r.1)
+
+fault_of : (ahead : List What) → has_fault (ahead ++ what.End ends.SourceFault ∷ []) ≡ true
+fault_of [] = refl
+fault_of (w ∷ ws) = or_right (is_source_fault w) (has_fault (ws ++ what.End ends.SourceFault ∷ [])) (fault_of ws)
+
+first_fault : (items : List Item) → first_end items ≡ ends.SourceFault → has_one is_source_fault items ≡ true
+first_fault items e = go (has_one is_source_fault items) (has_one is_spent_end items) (has_one is_no_memory items) e
+  where
+    go : (a b c : Bool) → (if a then ends.SourceFault else if b then ends.Spent else if c then ends.NoMemory else ends.Ended) ≡ ends.SourceFault → a ≡ true
+    go true b c e = refl
+    go false true c e = absurd cc
+    go false false true e = absurd cc
+    go false false false e = absurd cc
+
 no_fault : (items : List Item) → first_end items ≢ ends.SourceFault → has_one is_source_fault items ≡ false
 no_fault items n = go (has_one is_source_fault items) (has_one is_spent_end items) (has_one is_no_memory items) n
   where
     go : (a b c : Bool) → (if a then ends.SourceFault else if b then ends.Spent else if c then ends.NoMemory else ends.Ended) ≢ ends.SourceFault → a ≡ false
     go true b c n = absurd (n refl)
     go false b c n = refl
+
+-- all that feeders sent was taken, each sent its end last, and there are no others
+pub record AreWhole (items : List Item) (gs : List FeederState) : Type 0 where
+  pub whole : (k : ℕ) → k < length gs → sent_by k items ≡ sent_at gs k
+  pub others : (k : ℕ) → length gs ≤ k → sent_by k items ≡ []
+  pub last : (k : ℕ) → k < length gs → EndsLast (sent_at gs k)
+
+pub whole_of : (groups nodes : ℕ) (taken : List Item) (gs : List FeederState) → AreTaken groups nodes (length gs) taken → AreNumbered 0 gs → AreBegun taken gs → ends_in taken ≡ length gs → AreWhole taken gs
+whole_of groups nodes taken gs are n b all = record {
+  whole = all_whole groups nodes taken gs are n b all;
+  others = are.none;
+  last = λ k l. (place taken 0 gs n b k l).1;
+}
+
+-- where a run ended by a fault of a source, one of the feeders has ended so
+pub fault_at : (items : List Item) (gs : List FeederState) (end : FeedEnd) (start stop : Scene) → AreWhole items gs → HaveEnded end items start stop → end ≡ ends.SourceFault → (k : ℕ) × (k < length gs) × EndsWith (sent_at gs k) ends.SourceFault
+fault_at items gs end start stop w (inr sink) is = absurd (apart (sym sink.0 ∙ is))
+  where
+    apart : ends.SinkFault ≢ ends.SourceFault
+    apart e = cc
+fault_at items gs end start stop w (inl first) is = go (cases_lt k.0 (length gs))
+  where
+    k : (k : ℕ) × (has_fault (sent_by k items) ≡ true)
+    k = one_in items (first_fault items (sym first.0 ∙ is))
+
+    go : (k.0 < length gs) ⊎ (length gs ≤ k.0) → (k : ℕ) × (k < length gs) × EndsWith (sent_at gs k) ends.SourceFault
+    go (inl l) = (k.0, l, fault_last (sent_at gs k.0) (w.last k.0 l) (sym (ap has_fault (w.whole k.0 l)) ∙ k.1))
+    go (inr past) = absurd (true≢false (sym k.1 ∙ ap has_fault (w.others k.0 past)))
+
+-- where it did not, and no put failed, none of them has
+pub none_at : (items : List Item) (gs : List FeederState) (end : FeedEnd) (start stop : Scene) → AreWhole items gs → HaveEnded end items start stop → end ≢ ends.SourceFault → end ≢ ends.SinkFault → (k : ℕ) → ¬ EndsWith (sent_at gs k) ends.SourceFault
+none_at items gs end start stop w (inr sink) is put k e = absurd (put sink.0)
+none_at items gs end start stop w (inl first) is put k e = go (cases_lt k (length gs))
+  where
+    has : has_fault (sent_at gs k) ≡ true
+    has = ap has_fault e.1 ∙ fault_of e.0
+
+    none : has_one is_source_fault items ≡ false
+    none = no_fault items (λ same. is (first.0 ∙ same))
+
+    past_is : (gs : List FeederState) (k : ℕ) → length gs ≤ k → sent_at gs k ≡ []
+    past_is [] k l = refl
+    past_is (g ∷ gs) zero l = absurd (omega (arith, l))
+    past_is (g ∷ gs) (suc k) l = past_is gs k (omega (arith, l))
+
+    go : (k < length gs) ⊎ (length gs ≤ k) → ⊥
+    go (inl l) = true≢false (sym (any_in k items (ap has_fault (w.whole k l) ∙ has)) ∙ none)
+    go (inr past) = true≢false (sym has ∙ ap has_fault (past_is gs k past))
 
 -- the first feed and further ones, each with its feeder
 module _ {T : Type 0} (t : Plan) (turns : ℕ) (told : T → DeviceState Fed) (groups nodes : ℕ) (queue : TableId) (a b : DeviceState Fed) (f g : FeederState) (xs ys : List T) (fs gs : List FeederState) (taken : List Item)
@@ -302,6 +452,11 @@ several {T = T} t p turns told groups nodes a b f g xs ys fs gs opened given now
 pub some_told : {T : Type 0} (tell : T → DeviceState Fed) (xs : List T) → xs ≢ [] → map tell xs ≢ []
 some_told tell [] some e = some refl
 some_told tell (x ∷ xs) some e = cc
+
+-- what is left alone
+pub all_same : (xs : List (DeviceState Fed)) → NoneFell xs xs
+all_same [] = refl
+all_same (x ∷ xs) = (omega arith, all_same xs)
 
 pub no_more : {T : Type 0} (xs : List T) → length xs ≡ 0 → xs ≡ []
 no_more [] e = refl

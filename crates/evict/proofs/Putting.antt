@@ -10,7 +10,7 @@ use Rattle.map_model.specs.Holding.{under_within, under_worse, IsSaturated, Take
 use Rattle.evict.specs.Putting.{is_later, IsPutting}
 use Rattle.map_model.proofs.Trees.{under_itself, under_trans}
 use Rattle.map_model.proofs.Units.{units_of-le}
-use Rattle.evict.proofs.Evictions.{evict_step, full-IsSaturated, within-all}
+use Rattle.evict.proofs.Evictions.{evict_step, within-all}
 
 -- the worst offer counts_at a node is no better than another that has units there
 pub no_better : (m : Market) (lines : List MapLine) (c g k g' k' : ℕ) → units_of (under_worse m c (key_of m g' k')) lines ≡ 0 → counts_at m c g k ≡ true → 0 < units_of (λ h j. (h == g) && (j == k)) lines → key_le (key_of m g k) (key_of m g' k') ≡ true

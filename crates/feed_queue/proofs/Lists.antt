@@ -146,6 +146,13 @@ last_fits groups nodes feeders xs x h = (
   lt_of_not-le (λ past. not_nil (sent_by x.feeder xs) x.what (sym (sent_last xs x) ∙ h.none x.feeder past)),
 )
 
+none_tail : (x : Item) (xs : List Item) → ((k : ℕ) → 4 ≤ k → sent_by k (x ∷ xs) ≡ []) → (k : ℕ) → 4 ≤ k → sent_by k xs ≡ []
+none_tail x xs none k past = at (x.feeder == k) refl
+  where
+    at : (b : Bool) → (x.feeder == k) ≡ b → sent_by k xs ≡ []
+    at true e = absurd (cons_nil x.what (sent_by k xs) (sym (here_more k x xs (eqb-true x.feeder k e)) ∙ none k past))
+    at false e = sym (ap (λ b. map (λ (y : Item). y.what) (cond b (x ∷ only k xs) (only k xs))) e) ∙ none k past
+
 module _ (test : What → Bool) where
   -- how many of what was sent pass a test
   abbrev pub passed : List What → ℕ

@@ -1,11 +1,10 @@
 -- Batches of an instance of so many groups and nodes.
-use Rattle.std.proofs.Common.{◌≡◌, ℕ, ◌<◌, Bool, true, false, cond, ◌==◌, ◌&&◌, eq-eqb, eqb-true, List, [], length, All, refl, sym, subst, arith}
+use Rattle.std.proofs.Common.{◌≡◌, ℕ, ◌<◌, Bool, true, false, cond, ◌==◌, ◌&&◌, eq-eqb, eqb-true, List, [], length, All, refl, subst, arith}
 use Rattle.std.proofs.lemmas.List.Elements.{All-weaker}
 use Rattle.map_model.specs.declared.change.Change.{Change}
 use Rattle.map_model.specs.declared.change.Change.TheVariants.{Demand, Capacity}
 use Rattle.map_model.specs.Batch.{IsBatch, IsChange}
 use Rattle.map_model.specs.Market.{Market}
-use Rattle.demand_feed.specs.Batch.{IsInRange}
 use Rattle.feed_queue.specs.Items.{IsAmong}
 use Rattle.feed_queue.specs.Sending.{market_if}
 

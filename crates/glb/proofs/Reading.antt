@@ -1,16 +1,12 @@
 -- Files that are read one after the other.
-use Rattle.std.proofs.Common.{◌≡◌, ◌<◌, ◌≤◌, ℕ, zero, suc, List, [], ◌∷◌, ◌++◌, length, replicate, All, Option, None, Some, IfSome, Result, Ok, Err, IfOk, IsSomeAnd, MatchResult, Vec, inl, inr, refl, ap, sym, subst, ◌∙◌, append-nil, arith}
+use Rattle.std.proofs.Common.{◌≡◌, ◌<◌, ◌≤◌, ℕ, suc, List, [], ◌∷◌, ◌++◌, length, replicate, Option, None, Some, IfSome, Result, Ok, Err, IfOk, IsSomeAnd, MatchResult, Vec, inl, inr, refl, ap, sym, subst, ◌∙◌, arith}
 use Rattle.std.specs.declared.alloc.Global.{Global}
-use Rattle.std.proofs.Math.Seq.{take-nil}
-use Rattle.std.proofs.lemmas.Bool.{le-ltb, lt-ltb}
 use Rattle.std.proofs.lemmas.List.{length-replicate}
-use Rattle.std.proofs.lemmas.List.Elements.{All-cons}
 use Rattle.no_memory.specs.declared.NoMemory.{NoMemory}
 use Rattle.map_model.specs.declared.change.Change.{Change}
 use Rattle.map_model.specs.declared.lines.MapLines.{MapLines}
 use Rattle.outside.specs.Faults.{BothTell, DeviceState}
-use Rattle.outside.specs.Shelf.{IsLoad, IsNoted, Load, Shelved}
-use Rattle.outside.specs.declared.shelf.LoadFault.{LoadFault}
+use Rattle.outside.specs.Shelf.{IsLoad, Load, Shelved}
 use Rattle.outside.specs.declared.shelf.LoadFault.TheVariants.{TooLong}
 use Rattle.outside.specs.declared.shelf.LoadFault.TheVariants as load
 use Rattle.topology_text.specs.Plan.{Plan}
@@ -18,12 +14,12 @@ use Rattle.map_text.specs.Reading.{Mapped}
 use Rattle.map_text.specs.Writing.{mapped}
 use Rattle.glb.specs.Loads.{AreLoadsOf, DueLoad, Files, files_between}
 use Rattle.glb.specs.Outcome.{Outcome}
-use Rattle.glb.specs.Files.{IsRefused, Kind, Reads, Says, changes_file, loads_from, map_file, only, refused, said, topology_file}
-use Rattle.glb.specs.Ending.{AreBytes, EndsBy, IsEnd, IsFaulty, IsGiven, IsReading, IsRefusedBy, IsSaidBy, IsTooLong, StopsBy}
+use Rattle.glb.specs.Files.{IsRefused, Kind, Reads, Says, changes_file, loads_from, map_file, only, refused, topology_file}
+use Rattle.glb.specs.Ending.{EndsBy, IsEnd, IsFaulty, IsGiven, IsReading, IsSaidBy, IsTooLong, StopsBy}
 use Rattle.glb.specs.declared.ending.Report.{Report}
 use Rattle.glb.specs.declared.ending.Stop.{Stop}
 use Rattle.glb.specs.declared.ending.Stop.TheVariants as stop
-use Rattle.glb.proofs.Loads.{given_here, given_wider, grows, none_held, none_made, last_ends, stopped, stopped_only, stops_weaker, tell_weaker, then_ends}
+use Rattle.glb.proofs.Loads.{given_here, given_wider, grows, last_ends, stopped, stopped_only, stops_weaker, then_ends}
 
 -- a load that gave octets
 given_of : (name : List ℕ) (limit : ℕ) (bytes : List ℕ) (octets : Option (List ℕ)) (x y : Shelved) → octets ≡ Some bytes → y.loads ≡ x.loads ++ record { name = name; limit = limit; octets = octets } ∷ [] → y.holds ≡ x.holds

@@ -25,6 +25,12 @@ use Rattle.headline.proofs.Best.{best_of}
 
 -- TREES
 
+tree_is : (m : Market) → IsForest m → (n : ℕ) → n < length m.nodes → tree (instance m) n ≡ root_of m n
+tree_is m ok n l = ap (λ (ns : List ℕ). slice_index_or ns (length ns - 1) 0) (path_is m ok n l)
+
+pool_tree : (m : Market) → IsForest m → (g k : ℕ) (c : Choice) → IsOffer m g k → choice (choice_at m g k) ≡ c → tree (instance m) c.pool ≡ tree_of m g k
+pool_tree m ok g k c o is = subst (λ (x : Choice). tree (instance m) x.pool ≡ tree_of m g k) is (tree_is m ok (pool_of m g k) (pool_there m ok g k o))
+
 -- WHO HOLDS AND WHO WANTS WHAT
 
 module _ (m : Market) (ok : IsForest m) (xs : List MapLine) (form : AreLines m xs) where

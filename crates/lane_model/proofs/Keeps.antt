@@ -3,7 +3,7 @@ use Rattle.std.proofs.Common.{◌≡◌, ℕ, suc, ◌+◌, ◌<◌, ◌≤◌, 
 use mathlib.Core.List.{IsPrefix}
 use Rattle.outside.specs.Port.{Packet, Try}
 use Rattle.answer_core.specs.declared.way.Way.{Way}
-use Rattle.lane_model.specs.Lanes.{Answers, Entry, IsLaneRun, IsTryOf, following}
+use Rattle.lane_model.specs.Lanes.{Answers, Entry, IsTryOf, following}
 use Rattle.lane_model.specs.Machine.{Event, LaneState, Machine, GoesOn, IsStep, IsTaken, Takes, passed, replied, heard, commit, tell, take}
 use Rattle.lane_model.specs.Lawful.{AreKeptLanes, IsLawful, IsRunTo}
 use Rattle.lane_model.proofs.Prefixes.{prefix_get}

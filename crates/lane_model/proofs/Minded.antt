@@ -6,7 +6,7 @@ use Rattle.std.proofs.lemmas.List.{length-map, map-append}
 use Rattle.outside.specs.Port.{Packet, Try}
 use Rattle.answer_core.specs.declared.way.Way.{Way}
 use Rattle.lane_model.specs.Lanes.{Answers, Entry, IsTryOf}
-use Rattle.lane_model.specs.Machine.{Event, IsMoved, IsStep, IsTaken, LaneState, Machine, Takes, fresh, passed, replied, heard, commit, tell, take}
+use Rattle.lane_model.specs.Machine.{Event, IsMoved, IsStep, LaneState, Machine, Takes, fresh, passed, replied, heard, commit, tell, take}
 use Rattle.lane_model.specs.Minded.{IsMinded, IsMindful, packets_of}
 
 -- what one event makes of a lane

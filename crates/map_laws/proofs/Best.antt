@@ -1,13 +1,11 @@
 -- What is the best of all maps, and of those within a state.
-use Rattle.std.proofs.Common.{ℕ, ◌≤◌, nat_lt, List, slice_index, arith, inl, inr}
-use Rattle.std.proofs.lemmas.Bool.{cases_Bool, ltb-true}
+use Rattle.std.proofs.Common.{ℕ, ◌≤◌, List, arith}
 use Rattle.map_model.specs.declared.lines.MapLine.{MapLine}
 use Rattle.map_model.specs.Market.{Market, IsMarket, limit_of}
-use Rattle.map_model.specs.Allocation.{IsOffer, amount_at}
 use Rattle.map_model.specs.Progress.{IsGroupBest}
 use Rattle.best_laws.specs.Ahead.{IsRightMap, IsWithin}
 use Rattle.map_laws.specs.Below.{IsBestBelow}
-use Rattle.map_laws.specs.Circles.{IsCircleFree, limits_below}
+use Rattle.map_laws.specs.Circles.{IsCircleFree}
 use Rattle.map_laws.proofs.Free.{no_worse_if_free}
 
 -- with the limits of the instance a right map without a circle is group-best

@@ -10,6 +10,13 @@ use Rattle.best_laws.proofs.Sums.{is_at, sum-le}
 use Rattle.best_laws.proofs.Tops.{top_below, top_itself, top_passes, top_some}
 use Rattle.map_laws.proofs.Totals.{IsCounted, total, total-by, total-le, total-lt, total-none, total-parts, total-wider}
 
+at_from : (o : Option ℕ) (n : ℕ) → is_at o n ≡ true → o ≡ Some n
+at_from None n h = absurd (false≢true h)
+at_from (Some t) n h = ap Some (eqb-true t n h)
+
+at_to : (o : Option ℕ) (n : ℕ) → o ≡ Some n → is_at o n ≡ true
+at_to o n e = ap (λ o. is_at o n) e ∙ eq-eqb n n refl
+
 module _ (m : Market) (market : IsMarket m) (pools : (g k : ℕ) → pool_of m g k < length m.nodes) (size : ℕ) (test : ℕ → ℕ → Bool) (some : ℕ → Bool) (a b : ℕ → ℕ → ℕ) where
   abbrev top : ℕ → ℕ → Option ℕ
   top g k = top_of some (path m (pool_of m g k))

@@ -16,6 +16,29 @@ use Rattle.map_laws.proofs.Groups.{first_gain, last_is_loss, whole_ours}
 use Rattle.map_laws.proofs.First.{higher_order, is_higher, no_first}
 use Rattle.map_laws.proofs.Next.{next_gains, somebody}
 
+-- a group with units has a last place
+last_from : (m : Market) → IsMarket m → (lines : List MapLine) → AreLines m lines → (g : ℕ) → 0 < placed lines g → (n : ℕ) → ((j : ℕ) → n ≤ j → amount_at lines g j ≡ 0) → (k : ℕ) × IsLastPlace lines g k
+last_from m market lines form g some zero none =
+    let nothing = total-none (size_of m) (λ h _. h == g) (amount_at lines) (λ h j e. subst (λ x. amount_at lines x j ≡ 0) (sym (eqb-true h g e)) (none j (omega arith))) in
+    absurd (omega (arith, some, nothing, units_all m market lines form (λ h _. h == g)))
+last_from m market lines form g some (suc n) none = elim (cases_lt 0 (amount_at lines g n)) [
+  | inl l ↦ (n, record { some = l; last = λ j past. none j (omega (arith, past)) })
+  | inr none_there ↦ last_from m market lines form g some n (λ j le. elim (cases_eq n j) [
+    | inl e ↦ let same : amount_at lines g n ≡ amount_at lines g j = ap (amount_at lines g) e in omega (arith, none_there, same)
+    | inr ne ↦ none j (omega (arith, le, ne))
+  ])
+]
+
+last_place : (m : Market) → IsMarket m → (lines : List MapLine) → AreLines m lines → (g : ℕ) → 0 < placed lines g → (k : ℕ) × IsLastPlace lines g k
+last_place m market lines form g some = last_from m market lines form g some 16 (λ j past. elim (cases_lt 0 (amount_at lines g j)) [
+  | inl l ↦ absurd (omega (arith, past, few_places m market g j (offer_of m lines form g j l)))
+  | inr none_there ↦ omega (arith, none_there)
+])
+
+-- the pool of an offer is one
+pool_is : (m : Market) → IsMarket m → (g k : ℕ) → IsOffer m g k → IsTrue (is_pool_at m (pool_of m g k))
+pool_is m market g k o = (market.groups g _ o.group).pools k _ o.place
+
 module _ (m : Market) (market : IsMarket m) (pools : (g k : ℕ) → pool_of m g k < length m.nodes) (ours theirs : List MapLine) (right : IsRightMap m ours) (other : IsRightMap m theirs)
     (limits : ℕ → ℕ → ℕ) (limited : (g k : ℕ) → IsOffer m g k → limits g k ≤ limit_of m g k) (within : (g k : ℕ) → IsOffer m g k → amount_at theirs g k ≤ limits g k) (free : IsCircleFree m limits ours) where
   -- where room is made for somebody, somebody is next in line

@@ -12,6 +12,42 @@ use Rattle.map_laws.proofs.Totals.{total, total-le, total-lt, total-next, total-
 use Rattle.map_laws.proofs.Full.{counted, held_by, offer_of, size_of, units_all}
 use Rattle.map_laws.proofs.Join.{IsGain, IsLoss, fits, gain_is, gained, joined, joined_is, refused_ours}
 
+-- behind a place up to which the whole demand is placed there is nothing
+pub none_behind : (m : Market) (lines : List MapLine) → IsRightMap m lines → (g i k : ℕ) → g < length m.groups → demand_of m g ≤ placed_through lines g i → i < k → amount_at lines g k ≡ 0
+none_behind m lines right g i k l whole past = omega (
+  arith,
+  placed_through-split lines g k,
+  through-le-placed lines g k,
+  right.feasible.demands g l,
+  whole,
+  units_of-le (λ h j. (h == g) && nat_le j i) (λ h j. (h == g) && nat_lt j k) (λ h j t.
+      let p = and_parts (h == g) (nat_le j i) t in
+      and_from (h == g) (nat_lt j k) p.0 (lt-ltb j k (omega (arith, leb-true j i p.1, past)))) lines,
+)
+
+-- sums over the first groups, from those of each group
+sums_le : (m : Market) (a b : ℕ → ℕ → ℕ) → ((g : ℕ) → g < length m.groups → total (size_of m) (λ h _. h == g) a ≤ total (size_of m) (λ h _. h == g) b) → (n : ℕ) → n ≤ length m.groups → total (size_of m) (λ h _. nat_lt h n) a ≤ total (size_of m) (λ h _. nat_lt h n) b
+sums_le m a b each zero l = total-le (size_of m) (λ h _. nat_lt h 0) a b (λ h _ e. absurd (let none : h < 0 = ltb-none h e in omega (arith, none)))
+  where
+    ltb-none : (h : ℕ) → nat_lt h 0 ≡ true → h < 0
+    ltb-none h e = grind (arith, nat_tests)
+sums_le m a b each (suc n) l = omega (arith, total-next (size_of m) n a, total-next (size_of m) n b, each n (omega (arith, l)), sums_le m a b each n (omega (arith, l)))
+
+sums_lt : (m : Market) (a b : ℕ → ℕ → ℕ) → ((g : ℕ) → g < length m.groups → total (size_of m) (λ h _. h == g) a ≤ total (size_of m) (λ h _. h == g) b)
+    → (g : ℕ) → total (size_of m) (λ h _. h == g) a < total (size_of m) (λ h _. h == g) b → (n : ℕ) → n ≤ length m.groups → g < n → total (size_of m) (λ h _. nat_lt h n) a < total (size_of m) (λ h _. nat_lt h n) b
+sums_lt m a b each g less zero l in_n = absurd (omega (arith, in_n))
+sums_lt m a b each g less (suc n) l in_n = elim (cases_lt g n) [
+  | inl low ↦ omega (arith, total-next (size_of m) n a, total-next (size_of m) n b, each n (omega (arith, l)), sums_lt m a b each g less n (omega (arith, l)) low)
+  | inr high ↦
+      let e : g ≡ n = omega (arith, in_n, high) in
+      let here : total (size_of m) (λ h _. h == n) a < total (size_of m) (λ h _. h == n) b = subst (λ x. total (size_of m) (λ h _. h == x) a < total (size_of m) (λ h _. h == x) b) e less in
+      omega (arith, total-next (size_of m) n a, total-next (size_of m) n b, here, sums_le m a b each n (omega (arith, l)))
+]
+
+-- sums of a group, from its places
+of_group : (m : Market) (g : ℕ) (a b : ℕ → ℕ → ℕ) → ((k : ℕ) → a g k ≤ b g k) → total (size_of m) (λ h _. h == g) a ≤ total (size_of m) (λ h _. h == g) b
+of_group m g a b each = total-le (size_of m) (λ h _. h == g) a b (λ h k e. subst (λ x. a x k ≤ b x k) (sym (eqb-true h g e)) (each k))
+
 module _ (m : Market) (market : IsMarket m) (pools : (g k : ℕ) → pool_of m g k < length m.nodes) (ours theirs : List MapLine) (right : IsRightMap m ours) (other : IsRightMap m theirs) where
   abbrev both : ℕ → ℕ → ℕ
   both g k = joined m ours theirs g k

@@ -70,6 +70,20 @@ loss_is m ours theirs g k loss = elim (joined_is m ours theirs g k) [
   | inr (inr x) ↦ absurd (x.1 loss)
 ]
 
+-- where the join has more than the other map, ours has as much, and the other one wants it
+pub over : (m : Market) (ours theirs : List MapLine) (g k : ℕ) → amount_at theirs g k < joined m ours theirs g k → (joined m ours theirs g k ≡ amount_at ours g k) × (placed_through theirs g k < demand_of m g)
+over m ours theirs g k more = elim (joined_is m ours theirs g k) [
+  | inl x ↦ absurd (omega (arith, more, x.1))
+  | inr (inl x) ↦ absurd (omega (arith, more, x.1))
+  | inr (inr x) ↦ (x.2, elim (cases_lt (placed_through theirs g k) (demand_of m g)) [ inl l ↦ l | inr le ↦ absurd (x.1 (record { less = omega (arith, more, x.2); unwanted = le })) ])
+]
+
+-- what a right map has less of than another, and wants, a node refuses
+pub refused_more : (m : Market) → IsMarket m → (lines other : List MapLine) → IsRightMap m lines → IsRightMap m other → (g k : ℕ) → placed_through lines g k < demand_of m g → amount_at lines g k < amount_at other g k → (n : ℕ) × IsRefusedAt m lines n g k
+refused_more m market lines other right also g k wanted more =
+    let o = offer_of m other also.form g k (omega (arith, more)) in
+    refused_at m market lines right g k o wanted (omega (arith, more, also.feasible.limits g k o))
+
 module _ (m : Market) (market : IsMarket m) (pools : (g k : ℕ) → pool_of m g k < length m.nodes) (ours theirs : List MapLine) (right : IsRightMap m ours) (other : IsRightMap m theirs) where
   abbrev both : ℕ → ℕ → ℕ
   both g k = joined m ours theirs g k

@@ -1,20 +1,18 @@
 -- Room is made where the full node nearest to the offer's pool is left; so the next in line is the best over the nodes of a path.
 use Rattle.std.proofs.Common.{◌≡◌, ℕ, zero, suc, ◌<◌, ◌≤◌, ◌==◌, Bool, true, List, [], ◌∷◌, length, Option, None, Some, if◌then◌else◌, refl, sym, ap, ◌∙◌, subst, inl, inr, arith}
 use Rattle.std.specs.List.{find, list_any}
-use Rattle.std.proofs.lemmas.Bool.{cases_Bool, eq-eqb, eqb-true, false≢true, not-false, or_cases}
+use Rattle.std.proofs.lemmas.Bool.{cases_Bool, eq-eqb, eqb-true, false≢true, or_cases}
 use Rattle.std.proofs.Math.Bool.{or-true}
 use Rattle.map_model.specs.declared.instance.NodeId.{NodeId}
 use Rattle.map_model.specs.declared.lines.MapLine.{MapLine}
-use Rattle.map_model.specs.Market.{Market, IsMarket, capacity_of, climb, key_of, limit_of, parent_of, path, pool_of}
-use Rattle.map_model.specs.Allocation.{IsOffer, is_under, key_le, load}
-use Rattle.map_model.proofs.Keys.{key_le_trans}
+use Rattle.map_model.specs.Market.{Market, IsMarket, capacity_of, climb, limit_of, parent_of, path, pool_of}
+use Rattle.map_model.specs.Allocation.{IsOffer, is_under, load}
 use Rattle.map_model.proofs.Trees.{climb_longer, under_trans}
 use Rattle.best_laws.specs.Ahead.{IsRightMap}
 use Rattle.best_laws.proofs.Offers.{offer_one}
 use Rattle.map_laws.specs.Circles.{IsInLine, IsNextInLine, MakesRoom}
-use Rattle.map_laws.specs.Nearest.{IsBestAt, IsFirstFull}
-use Rattle.map_laws.proofs.First.{higher_order, is_higher, no_first}
-use Rattle.map_laws.proofs.Full.{counted, refused_at, size_of}
+use Rattle.map_laws.specs.Nearest.{IsFirstFull}
+use Rattle.map_laws.proofs.Full.{refused_at}
 
 -- so room is made by a unit that leaves a pool just if it leaves that node
 pub room_from : (m : Market) → IsMarket m → (lines : List MapLine) (pool n g k : ℕ) → pool < length m.nodes → IsFirstFull m lines (pool_of m g k) n → is_under m n pool ≡ true → MakesRoom m lines pool g k

@@ -18,6 +18,38 @@ use Rattle.map_laws.proofs.Groups.{total_ge}
 use Rattle.map_laws.proofs.First.{apart}
 use Rattle.map_laws.proofs.Refuses.{joined_offer, refuses}
 
+-- a full node of the offer's path that isn't on that of the pool
+pub record IsInTheWay (m : Market) (lines : List MapLine) (pool g k n : ℕ) : Type 0 where
+  pub on : counts_at m n g k ≡ true
+  pub full : load m lines n ≡ capacity_of m n
+  pub off : is_under m n pool ≡ false
+
+-- some node passes a test, or none of the list does
+some_or_none : (test : ℕ → Bool) (ns : List ℕ) → ((n : ℕ) × (list_any (λ x. x == n) ns ≡ true) × (test n ≡ true)) ⊎ ((n : ℕ) → list_any (λ x. x == n) ns ≡ true → test n ≡ false)
+some_or_none test [] = inr (λ n h. absurd (false≢true h))
+some_or_none test (x ∷ ns) = elim (cases_Bool (test x)) [
+  | inl e ↦ inl (x, rw (eq-eqb x x refl) refl, e)
+  | inr e ↦ elim (some_or_none test ns) [
+    | inl w ↦ inl (w.0, rw w.1 (or-true (x == w.0)), w.2)
+    | inr none ↦ inr (λ n h. elim (or_cases (x == n) (list_any (λ y. y == n) ns) h) [
+      | inl same ↦ subst (λ y. test y ≡ false) (eqb-true x n same) e
+      | inr there ↦ none n there
+    ])
+  ]
+]
+
+-- room is made for the offer, or a node is in the way
+pub room_or_way : (m : Market) (lines : List MapLine) (pool g k : ℕ) → ((n : ℕ) × IsInTheWay m lines pool g k n) ⊎ MakesRoom m lines pool g k
+room_or_way m lines pool g k = elim (some_or_none (λ n. (load m lines n == capacity_of m n) && not (is_under m n pool)) (path m (pool_of m g k))) [
+  | inl w ↦
+      let p = and_parts (load m lines w.0 == capacity_of m w.0) (not (is_under m w.0 pool)) w.2 in
+      inl (w.0, record { on = w.1; full = eqb-true (load m lines w.0) (capacity_of m w.0) p.0; off = not-true (is_under m w.0 pool) p.1 })
+  | inr none ↦ inr (λ n on full. elim (cases_Bool (is_under m n pool)) [
+    | inl e ↦ e
+    | inr e ↦ absurd (false≢true (sym (none n on) ∙ and_from (load m lines n == capacity_of m n) (not (is_under m n pool)) (eq-eqb (load m lines n) (capacity_of m n) full) (rw e refl)))
+  ])
+]
+
 module _ (m : Market) (market : IsMarket m) (pools : (g k : ℕ) → pool_of m g k < length m.nodes) (ours theirs : List MapLine) (right : IsRightMap m ours) (other : IsRightMap m theirs) (g l : ℕ) (loss : IsLoss m ours theirs g l) where
   abbrev both : ℕ → ℕ → ℕ
   both g k = joined m ours theirs g k

@@ -77,6 +77,23 @@ total-add size test a b = sum_by-add _ _ _ (λ i. one (test (i / 16) (i % 16)) (
     one true x y = omega arith
     one false x y = omega arith
 
+-- a sum over the first groups and one more
+pub total-next : (size n : ℕ) (f : ℕ → ℕ → ℕ) → total size (λ h _. nat_lt h (suc n)) f ≡ total size (λ h _. nat_lt h n) f + total size (λ h _. h == n) f
+total-next size n f = omega (
+  arith,
+  total-parts size (λ h _. nat_lt h (suc n)) (λ h _. h == n) f,
+  total-wider size (λ h _. nat_lt h (suc n) && (h == n)) (λ h _. h == n) f (λ h _ e. (and_parts (nat_lt h (suc n)) (h == n) e).1),
+  total-wider size (λ h _. h == n) (λ h _. nat_lt h (suc n) && (h == n)) f (λ h _ e. and_from (nat_lt h (suc n)) (h == n) (lt-ltb h (suc n) (omega (arith, eqb-true h n e))) e),
+  total-wider size (λ h _. nat_lt h (suc n) && not (h == n)) (λ h _. nat_lt h n) f (λ h _ e. lower h (and_parts (nat_lt h (suc n)) (not (h == n)) e)),
+  total-wider size (λ h _. nat_lt h n) (λ h _. nat_lt h (suc n) && not (h == n)) f (λ h _ e. let l = ltb-true h n e in and_from (nat_lt h (suc n)) (not (h == n)) (lt-ltb h (suc n) (omega (arith, l))) (rw (ne_eqb h n (λ same. absurd (omega (arith, l, same)))) refl)),
+)
+  where
+    lower : (h : ℕ) → (nat_lt h (suc n) ≡ true) × (not (h == n) ≡ true) → nat_lt h n ≡ true
+    lower h p = elim (cases_eq h n) [
+      | inl e ↦ absurd (false≢true (sym (not_from_true (h == n) (eq-eqb h n e)) ∙ p.1))
+      | inr ne ↦ lt-ltb h n (omega (arith, ltb-true h (suc n) p.0, ne))
+    ]
+
 -- all groups are among the first so many
 pub total-within : (count : ℕ) (f : ℕ → ℕ → ℕ) → total (count * 16) (λ _ _. true) f ≤ total (count * 16) (λ h _. nat_lt h count) f
 unfolding total

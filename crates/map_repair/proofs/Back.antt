@@ -17,6 +17,80 @@ use Rattle.reopen.specs.Rolling.{CanRollBack, IsBackAt, IsRolledBack, is_marked}
 use Rattle.reopen.proofs.Removing.{IsRolling, rolled_back}
 use Rattle.map_laws.proofs.Same.{IsSome_line, rank_of, rising_lines}
 
+-- elements that are left out leave ranks that rise
+rises_filter : {X : Type 0} (rank : X → ℕ) (In : X → Type 0) (p : X → Bool) (from : ℕ) (xs : List X) → Rises rank In from xs → Rises rank In from (filter p xs)
+rises_filter rank In p from [] r = tt
+rises_filter rank In p from (x ∷ xs) r = elim (cases_Bool (p x)) [
+  | inl y ↦ subst (λ b. Rises rank In from (cond b (x ∷ filter p xs) (filter p xs))) (sym y) (r.0, r.1, rises_filter rank In p (rank x + 1) xs r.2)
+  | inr n ↦
+      let start : from ≤ rank x = r.0 in
+      let rest : Rises rank In from (filter p xs) = Rises-lower rank In from (rank x + 1) (filter p xs) (omega (arith, start)) (rises_filter rank In p (rank x + 1) xs r.2) in
+      subst (λ b. Rises rank In from (cond b (x ∷ filter p xs) (filter p xs))) (sym n) rest
+]
+
+-- and lines in the form of a map
+lines_filter : (m : Market) → IsMarket m → (p : MapLine → Bool) (lines : List MapLine) → AreLines m lines → AreLines m (filter p lines)
+lines_filter m market p lines form i l =
+    let kept : List MapLine = filter p lines in
+    let offers : All (λ x. IsOffer m x.group.0 x.place) kept = All-filter p (λ x. IsOffer m x.group.0 x.place) lines (offers-AreLines m lines form) in
+    let a = Rises-at rank_of IsSome_line no_line 0 kept (rises_filter rank_of IsSome_line p 0 lines (rising_lines m market lines form)) i l in
+    let o : IsOffer m (get_or kept i no_line).group.0 (get_or kept i no_line).place = offers i no_line l in
+    let b : MapLine = get_or kept (i - 1) no_line in
+    let x : MapLine = get_or kept i no_line in
+    and_from _ _ (and_from _ _ (and_from _ _ (lt-ltb _ _ o.group) (lt-ltb _ _ o.place)) (lt-ltb _ _ a.range.1)) (first_or i _ (λ some. before_by_rank b.group.0 b.place x.group.0 x.place (few_places m market _ _ (offers (i - 1) no_line (omega arith))) (few_places m market _ _ o) (a.above some)))
+
+-- their units are those that pass the test of the lines as well
+units_filter : (p test : ℕ → ℕ → Bool) (lines : List MapLine) → units_of test (filter (λ (l : MapLine). p l.group.0 l.place) lines) ≡ units_of (λ g k. test g k && p g k) lines
+units_filter p test [] = refl
+units_filter p test (l ∷ ls) = elim (cases_Bool (p l.group.0 l.place)) [
+  | inl y ↦
+      let here : (if test l.group.0 l.place && p l.group.0 l.place then l.amount else 0) ≡ (if test l.group.0 l.place then l.amount else 0) = rw y (ap (λ b. if b then l.amount else 0) (and-true (test l.group.0 l.place))) in
+      let head : units_of test (filter (λ (x : MapLine). p x.group.0 x.place) (l ∷ ls)) ≡ units_of test (l ∷ filter (λ (x : MapLine). p x.group.0 x.place) ls) = ap (λ b. units_of test (cond b (l ∷ filter (λ (x : MapLine). p x.group.0 x.place) ls) (filter (λ (x : MapLine). p x.group.0 x.place) ls))) y in
+      omega (
+        arith,
+        head,
+        here,
+        sum_by-cons (λ (x : MapLine). if test x.group.0 x.place then x.amount else 0) l (filter (λ (x : MapLine). p x.group.0 x.place) ls),
+        sum_by-cons (λ (x : MapLine). if test x.group.0 x.place && p x.group.0 x.place then x.amount else 0) l ls,
+        units_filter p test ls,
+      )
+  | inr n ↦
+      let here : (if test l.group.0 l.place && p l.group.0 l.place then l.amount else 0) ≡ 0 = rw n (ap (λ b. if b then l.amount else 0) (and-false (test l.group.0 l.place))) in
+      let head : units_of test (filter (λ (x : MapLine). p x.group.0 x.place) (l ∷ ls)) ≡ units_of test (filter (λ (x : MapLine). p x.group.0 x.place) ls) = ap (λ b. units_of test (cond b (l ∷ filter (λ (x : MapLine). p x.group.0 x.place) ls) (filter (λ (x : MapLine). p x.group.0 x.place) ls))) n in
+      omega (arith, head, here, sum_by-cons (λ (x : MapLine). if test x.group.0 x.place && p x.group.0 x.place then x.amount else 0) l ls, units_filter p test ls)
+]
+  where
+    and-true : (b : Bool) → (b && true) ≡ b
+    and-true true = refl
+    and-true false = refl
+
+    and-false : (b : Bool) → (b && false) ≡ false
+    and-false true = refl
+    and-false false = refl
+
+-- the first place before another whose tree is marked, or that place
+back_place : (m : Market) (marks : List Bool) (g old : ℕ) → (place : ℕ) × IsBackAt m marks g old place
+back_place m marks g zero = (0, record { within = omega arith; before = λ k l. absurd (omega arith); at = λ l. absurd (omega arith) })
+back_place m marks g (suc n) =
+    let w = back_place m marks g n in
+    let b : IsBackAt m marks g n w.0 = w.1 in
+    elim (cases_lt w.0 n) [
+      | inl found ↦ (w.0, record { within = omega (arith, b.within); before = b.before; at = λ l. b.at found })
+      | inr all ↦
+          let clear : (k : ℕ) → k < n → is_marked m marks g k ≡ false = λ k l. b.before k (omega (arith, l, all)) in
+          elim (cases_Bool (is_marked m marks g n)) [
+            | inl y ↦ (n, record { within = omega arith; before = clear; at = λ l. y })
+            | inr off ↦ (
+              suc n,
+              record {
+                within = omega arith;
+                before = λ k l. elim (cases_lt k n) [ inl low ↦ clear k low | inr high ↦ let e : n ≡ k = omega (arith, l, high) in subst (λ x. is_marked m marks g x ≡ false) e off ];
+                at = λ l. absurd (omega (arith, l));
+              },
+            )
+          ]
+    ]
+
 module _ (m : Market) (marks : List Bool) (s : Standing) (can : CanRollBack m marks s) where
   abbrev count : ℕ
   count = length m.groups

@@ -18,6 +18,31 @@ use Rattle.map_repair.specs.Repaired.{IsLocal, IsWithinSpread, most_inside}
 use Rattle.map_repair.proofs.Middle.{IsLocalOutside, IsMiddle, IsReopened, bounded, holds_work, local}
 use Rattle.map_repair.proofs.Marking.{on_from_set, on_set}
 
+-- whether something is so of a number below a bound, where that can be told of each
+any_below : (P : ℕ → Type 0) → ((x : ℕ) → P x ⊎ (P x → ⊥)) → (n : ℕ) → ((x : ℕ) × (x < n) × P x) ⊎ ((x : ℕ) → x < n → P x → ⊥)
+any_below P told zero = inr (λ x l p. absurd (omega arith))
+any_below P told (suc n) = elim (told n) [
+  | inl p ↦ inl (n, omega arith, p)
+  | inr none ↦ elim (any_below P told n) [
+    | inl w ↦ inl (w.0, omega (arith, w.1), w.2)
+    | inr no_lower ↦ inr (λ x l p. elim (cases_eq x n) [ inl e ↦ none (subst P e p) | inr ne ↦ no_lower x (omega (arith, l, ne)) p ])
+  ]
+]
+
+told_both : (A B : Type 0) → A ⊎ (A → ⊥) → B ⊎ (B → ⊥) → (A × B) ⊎ (A × B → ⊥)
+told_both A B (inl a) (inl b) = inl (a, b)
+told_both A B (inl a) (inr no_b) = inr (λ p. no_b p.1)
+told_both A B (inr no_a) b = inr (λ p. no_a p.0)
+
+told_bool : (b c : Bool) → (b ≡ c) ⊎ (b ≡ c → ⊥)
+told_bool true true = inl refl
+told_bool true false = inr (λ e. false≢true (sym e))
+told_bool false true = inr (λ e. false≢true e)
+told_bool false false = inl refl
+
+told_less : (a b : ℕ) → (a < b) ⊎ (a < b → ⊥)
+told_less a b = elim (cases_lt a b) [ inl l ↦ inl l | inr le ↦ inr (λ l. absurd (omega (arith, l, le))) ]
+
 module _ (old : Market) (lines : List MapLine) (new : Market) (market : IsMarket old) where
   -- a set of trees with a tree of a list of a group that has to be in it and is not: the group's demand is raised, or it has another tree in the set
   abbrev Lacks : List Bool → ℕ → ℕ → Type 0
@@ -96,6 +121,28 @@ module _ (old : Market) (lines : List MapLine) (new : Market) (market : IsMarket
     reached = λ root is. is (λ n. is_on marks n) are.closed;
     sound = λ n on. λ trees closed. closed.reached n (are.least n on);
   })
+
+-- what holds of each set of trees that is closed under spread holds of the spread trees
+local_spread : (old : Market) (lines : List MapLine) (new : Market) (repaired : List MapLine) → IsMarket old → (marks : List Bool) → AreReached old lines new marks
+    → ((trees : ℕ → Bool) → IsClosedUnderSpread old lines new trees → IsLocalOutside old lines new repaired trees) → IsLocal old lines new repaired
+local_spread old lines new repaired market marks are each =
+    let w = spread_set old lines new market marks are in
+    let outside = each (λ x. is_on w.0 x) w.1 in
+    let off : (root : ℕ) → (IsSpread old lines new root → ⊥) → is_on w.0 root ≡ false = λ root apart. elim (cases_Bool (is_on w.0 root)) [ inr n ↦ n | inl y ↦ absurd (apart (w.2 root y)) ] in
+    record { amounts = λ g k o apart. outside.amounts g k o (off (tree_of old g k) apart); names = λ g k o apart. outside.names g k o (off (tree_of old g k) apart) }
+
+within_spread : (old : Market) (lines : List MapLine) (new : Market) (before after : ℕ) → IsMarket old → IsSameShape old new → (marks : List Bool) → AreReached old lines new marks
+    → ((trees : ℕ → Bool) → IsClosedUnderSpread old lines new trees → after ≤ before + most_inside new trees) → IsWithinSpread old lines new before after
+within_spread old lines new before after market shape marks are each = λ trees all.
+    let w = spread_set old lines new market marks are in
+    let less = sum-le (λ g. if is_on w.0 (tree_of new g 0) then length (choices_of new g) * (demand_of new g + 1) else 0) (λ g. if trees (tree_of new g 0) then length (choices_of new g) * (demand_of new g + 1) else 0) (length new.groups) 0
+    (λ g low high. one (is_on w.0 (tree_of new g 0)) (trees (tree_of new g 0)) (length (choices_of new g) * (demand_of new g + 1)) (λ y. all (tree_of new g 0) (w.2 (tree_of new g 0) y))) in
+    omega (arith, each (λ x. is_on w.0 x) w.1, less)
+  where
+    one : (b c : Bool) (n : ℕ) → (b ≡ true → c ≡ true) → (if b then n else 0) ≤ (if c then n else 0)
+    one true true n h = omega arith
+    one true false n h = absurd (false≢true (h refl))
+    one false c n h = omega arith
 
 -- A run from what was opened in marked trees alone changes nothing outside the spread trees, and its proposals are within those of the groups there.
 module _ (old new : Market) (s mid : Standing) (marks : List Bool) (k : IsMiddle old new s mid marks) (opened : Standing) (ro : IsReopened new marks mid opened) (final : Standing) (before after : ℕ) where

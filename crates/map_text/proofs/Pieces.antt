@@ -7,7 +7,7 @@ use Rattle.std.specs.List.{flat_map}
 use Rattle.map_model.specs.declared.lines.MapLine.{MapLine}
 use Rattle.map_model.specs.declared.lines.NameLine.{NameLine}
 use Rattle.topology_text.specs.Plan.{Plan}
-use Rattle.map_text.specs.Cutting.{AreCuts, IsTextOf, name_text, place_text}
+use Rattle.map_text.specs.Cutting.{AreCuts, name_text, place_text}
 use Rattle.map_text.specs.Reading.{Mapped}
 use Rattle.map_text.specs.Writing.{ended, name_row, place_row, text_of_map}
 use Rattle.map_text.proofs.Again.{text_by_pieces}

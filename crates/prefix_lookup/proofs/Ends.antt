@@ -1,13 +1,12 @@
 -- The walk over the blocks: where it begins, where it goes on and where it ends.
-use Rattle.std.proofs.Common.{◌≡◌, ℕ, ◌+◌, ◌-◌, ◌*◌, ◌^◌, ◌<◌, ◌≤◌, List, [], ◌∷◌, ◌++◌, length, Option, None, Some, refl, sym, ap, subst, ◌∙◌, arith, inl, inr, length-append}
-use Rattle.std.specs.Prelude.{Contains, max, unwrap_or, ◌⊎◌}
+use Rattle.std.proofs.Common.{◌≡◌, ℕ, ◌+◌, ◌-◌, ◌*◌, ◌^◌, ◌<◌, ◌≤◌, List, [], ◌∷◌, ◌++◌, length, refl, sym, ap, subst, ◌∙◌, arith, inl, inr, length-append}
+use Rattle.std.specs.Prelude.{Contains, max, ◌⊎◌}
 use Rattle.std.proofs.Math.Pow.{pow_mono}
 use Rattle.std.proofs.lemmas.Bool.{cases_lt}
 use Rattle.std.proofs.lemmas.List.{get_or_default, get_or_push}
 use Rattle.std.proofs.lemmas.Nat.{pow_pos}
 use Rattle.addr_text.specs.declared.address.Prefix.{Prefix}
 use Rattle.addr_text.specs.Addresses.{default_v4, default_v6}
-use Rattle.map_model.specs.declared.instance.GroupId.{GroupId}
 use Rattle.prefix_lookup.specs.declared.block.Block.{Block}
 use Rattle.prefix_lookup.specs.declared.family.Family.{Family}
 use Rattle.prefix_lookup.specs.declared.family.Family.TheVariants as family

@@ -1,6 +1,5 @@
 -- One row or one capacity after another.
 use Rattle.std.proofs.Common.{◌≡◌, ℕ, ◌<◌, List, [], ◌∷◌, length, fold, slice_set, refl, ◌∙◌, arith}
-use Rattle.std.proofs.Math.ListN.{length-set}
 use Rattle.map_model.specs.declared.instance.GroupId.{GroupId}
 use Rattle.map_model.specs.declared.instance.NodeId.{NodeId}
 use Rattle.map_model.specs.Market.{group_at, node_at}

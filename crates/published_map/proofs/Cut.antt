@@ -27,6 +27,21 @@ abbrev pub AllBelow : {X : Type 0} → (X → ℕ) → ℕ → List X → Type 0
 AllBelow key n [] = Unit {0}
 AllBelow key n (x ∷ xs) = (key x < n) × AllBelow key n xs
 
+le_yes : (a b : ℕ) → a ≤ b → nat_le a b ≡ true
+le_yes a b h = grind (arith, nat_tests)
+
+le_no : (a b : ℕ) → b < a → nat_le a b ≡ false
+le_no a b h = grind (arith, nat_tests)
+
+eq_yes : (a b : ℕ) → a ≡ b → (a == b) ≡ true
+eq_yes a b h = grind (arith, nat_tests)
+
+eq_no : (a b : ℕ) → (a ≡ b → ⊥) → (a == b) ≡ false
+eq_no a b h = grind (arith, nat_tests)
+
+three : (a b : ℕ) → (a < b) ⊎ ((a ≡ b) ⊎ (b < a))
+three a b = grind arith
+
 module _ {X : Type 0} (key : X → ℕ) where
   unfoldable pub from : ℕ → List X → List X
   from o xs = filter (λ x. nat_le o (key x)) xs

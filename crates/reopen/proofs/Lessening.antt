@@ -9,10 +9,9 @@ use Rattle.map_model.specs.Market.{Market, IsMarket, IsSameShape, capacity_of, d
 use Rattle.map_model.specs.Allocation.{IsOffer, amount_at, counts_at, load, placed, units_of}
 use Rattle.map_model.specs.Progress.{root_of, tree_of}
 use Rattle.map_model.proofs.Paths.{pool_there}
-use Rattle.evict.specs.Standing.{CanRelease, IsReleased, Standing}
+use Rattle.evict.specs.Standing.{IsReleased, Standing}
 use Rattle.map_model.proofs.Roots.{root-under}
 use Rattle.evict.proofs.Shaped.{AreLines-shape}
-use Rattle.map_model.proofs.Shapes.{IsOffer-shape, shape_sym}
 use Rattle.reopen.specs.Cutting.{IsGroupTrimmed, CanCut, IsFitting, IsLess, KeepsSums}
 
 -- a state is within itself

@@ -1,5 +1,5 @@
 -- What the code's machine does is a step of the machine.
-use Rattle.std.proofs.Common.{◌≡◌, ℕ, zero, suc, ◌<◌, ◌≤◌, true, List, [], ◌∷◌, ◌++◌, length, Option, Some, slice_get, slice_set, slice_index_or, Result, Ok, Err, OnOk, refl, sym, ap, subst, arith, inl, inr, ⊎_elim}
+use Rattle.std.proofs.Common.{◌≡◌, ℕ, zero, suc, ◌<◌, ◌≤◌, true, List, [], ◌∷◌, ◌++◌, length, Some, slice_get, slice_set, slice_index_or, Result, Ok, Err, OnOk, refl, sym, ap, subst, arith, inl, inr, ⊎_elim}
 use Rattle.addr_text.specs.declared.address.Peer.{Peer}
 use Rattle.map_model.specs.declared.change.Change.{Change}
 use Rattle.map_model.specs.declared.lines.MapLines.{MapLines}
@@ -7,17 +7,14 @@ use Rattle.outside.specs.Port.{Packet}
 use Rattle.published_map.specs.Version.{Version}
 use Rattle.answer_core.specs.declared.way.Way.{Way}
 use Rattle.lane_model.specs.Histories.{Follows}
-use Rattle.lane_model.specs.Lawful.{IsLawful}
 use Rattle.lane_model.specs.Lanes.{draw}
-use Rattle.lane_model.specs.Machine.{IsMoved, IsStep, IsTaken, LaneState, Machine, Takes, fresh, heard}
+use Rattle.lane_model.specs.Machine.{IsMoved, IsStep, LaneState, Machine, Takes, fresh, heard}
 use Rattle.lane_model.specs.Machine as machine
 use Rattle.lane_model.specs.Replies.{replies}
-use Rattle.lane_model.proofs.Keeps.{all_kept}
 use Rattle.lane_model.proofs.Stated.{none_silent, some_spoken}
-use Rattle.serve_core.specs.declared.event.Event.{Event}
 use Rattle.serve_core.specs.declared.event.StepFault.{StepFault}
 use Rattle.serve_core.specs.declared.event.Event.TheVariants.{Commit, Tell, Take}
-use Rattle.serve_core.specs.Events.{IsCommitOf, IsRefused, RunsTo}
+use Rattle.serve_core.specs.Events.{IsCommitOf}
 use Rattle.serve_core.specs.Events as events
 use Rattle.serve_core.specs.Takings.{IsTakenBy, IsTaking}
 

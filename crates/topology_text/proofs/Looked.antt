@@ -1,10 +1,8 @@
 -- A value that was looked up, and what it is.
-use Rattle.std.proofs.lemmas.List.{drop_more}
-use Rattle.std.proofs.Common.{◌≡◌, ℕ, ◌+◌, ◌<◌, length, drop, get_or, Bool, false, ◌&&◌, String, string_bytes, Vec, Global, List, [], ◌∷◌, map, Option, None, Some, option_map, Bor, refl, ap, sym, ◌∙◌}
-use Rattle.std.specs.List.{cons_option, list_all}
+use Rattle.std.proofs.Common.{◌≡◌, ℕ, ◌+◌, ◌<◌, Bool, false, ◌&&◌, String, string_bytes, Vec, Global, List, [], ◌∷◌, map, Option, None, Some, refl, ap, ◌∙◌}
+use Rattle.std.specs.List.{list_all}
 use Rattle.std.specs.Map.{keys_of}
-use Rattle.topology_text.specs.Names.{texts_of}
-use Rattle.toml.specs.Data.{Data, as_str, string, integer, float, boolean, datetime, array, table}
+use Rattle.toml.specs.Data.{Data, string, integer, float, boolean, datetime, array, table}
 use Rattle.toml.specs.View.{view, items_view, members_view}
 use Rattle.toml.specs.declared.value.Value.{Value, Array}
 use Rattle.topology_text.specs.Walk.{list_of, names_of, items_from, items_where}

@@ -1,6 +1,6 @@
 -- Names that stand for the second time.
 use Rattle.std.proofs.Common.{◌≡◌, ℕ, ◌+◌, ◌<◌, ◌≤◌, suc, zero, Bool, true, false, not, cond, ◌||◌, List, [], ◌∷◌, ◌++◌, length, get_or, map, take, drop, Option, None, Some, option_map, Vec, Global, refl, ap, sym, ◌∙◌, arith}
-use Rattle.std.proofs.lemmas.List.{get_or-map, length-map, take_more, drop_more, drop_all, map-append}
+use Rattle.std.proofs.lemmas.List.{get_or-map, length-map, take_more, drop_more, map-append}
 use Rattle.std.specs.List.{cons_option, list_any}
 use Rattle.std.specs.Str.{bytes_eq, str_to_ascii_lowercase}
 use Rattle.std.proofs.lemmas.List.Elements.{filter_map-append}

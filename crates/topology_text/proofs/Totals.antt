@@ -1,8 +1,8 @@
 -- How many prefixes stand in the first tables of a walk.
-use Rattle.std.proofs.Common.{◌≡◌, ℕ, ◌+◌, ◌<◌, ◌≤◌, Bool, true, false, not, ◌&&◌, nat_lt, List, [], ◌∷◌, length, get_or, map, take, drop, None, Some, option_map, ap, sym, ◌∙◌, subst, arith}
+use Rattle.std.proofs.Common.{◌≡◌, ℕ, ◌+◌, ◌<◌, ◌≤◌, Bool, true, false, not, ◌&&◌, nat_lt, List, [], ◌∷◌, length, get_or, map, take, drop, Some, option_map, ap, sym, ◌∙◌, subst, arith}
 use Rattle.std.proofs.lemmas.Bool.Decides.{nat_tests}
 use Rattle.std.proofs.lemmas.List.Sums.{sum_by-append}
-use Rattle.std.proofs.lemmas.List.{get_or-map, length-map, take_more, drop_all}
+use Rattle.std.proofs.lemmas.List.{get_or-map, length-map, take_more}
 use Rattle.topology_text.specs.Code.{visit}
 use Rattle.topology_text.specs.Prefixes.{count_at, is_past, passing, total}
 use Rattle.topology_text.specs.Walk.{Visit, first, items_at, marked, marked_from}

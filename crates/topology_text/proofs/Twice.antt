@@ -1,6 +1,6 @@
 -- Prefixes that stand for the second time.
-use Rattle.std.proofs.Common.{◌≡◌, ℕ, ◌+◌, ◌<◌, ◌≤◌, Bool, true, false, not, ◌||◌, List, [], ◌∷◌, ◌++◌, length, get_or, map, take, drop, None, Some, option_map, if◌then◌else◌, refl, ap, sym, ◌∙◌}
-use Rattle.std.proofs.lemmas.List.{take_more, drop_all, map-append}
+use Rattle.std.proofs.Common.{◌≡◌, ℕ, ◌+◌, ◌<◌, ◌≤◌, Bool, true, false, not, ◌||◌, List, [], ◌∷◌, ◌++◌, length, get_or, map, take, drop, Some, option_map, if◌then◌else◌, refl, ap, sym, ◌∙◌}
+use Rattle.std.proofs.lemmas.List.{take_more, map-append}
 use Rattle.std.specs.List.{list_any}
 use Rattle.std.proofs.lemmas.Bool.{not-true, not-false}
 use Rattle.addr_text.specs.contracts.address.PrefixPartialEq.TheImpl.{eq-value}

@@ -1,16 +1,14 @@
 -- Steps of the walk over a table's entries.
-use Rattle.std.proofs.Common.{◌≡◌, Bool, true, false, ℕ, ◌+◌, ◌<◌, ◌≤◌, List, [], ◌∷◌, ◌++◌, length, get_or, drop, map, Option, None, Some, refl, ap, sym, ◌∙◌, append_assoc, append-nil}
-use Rattle.std.proofs.lemmas.List.{drop_more, drop_all, map-append}
-use Rattle.std.specs.List.{cons_option}
+use Rattle.std.proofs.Common.{◌≡◌, Bool, true, false, ℕ, ◌+◌, ◌<◌, ◌≤◌, List, [], ◌∷◌, ◌++◌, length, get_or, drop, map, Some, refl, ◌∙◌}
+use Rattle.std.proofs.lemmas.List.{drop_more}
 use Rattle.toml.specs.Data.{Data}
 use Rattle.toml.specs.View.{view}
 use Rattle.toml.specs.declared.value.Value.{Value}
-use Rattle.topology_text.specs.declared.schema.Key.{Key}
 use Rattle.topology_text.specs.declared.schema.Key.TheVariants.{Node, Group, Class}
 use Rattle.topology_text.specs.declared.schema.At.TheVariants.{Item}
 use Rattle.topology_text.specs.declared.visited.TableAt.{TableAt}
 use Rattle.topology_text.specs.Code.{visit}
-use Rattle.topology_text.specs.Walk.{Visit, first, items_from, entries_from, entry_spot, visit_of}
+use Rattle.topology_text.specs.Walk.{Visit, first, items_from, entries_from}
 
 -- the five parts of a walk in a row
 pub walked : (top : Visit) (t z n g c : List TableAt) (zone : List Visit) (nodes groups classes ns gs cs : List Data) → map visit t ≡ top ∷ []

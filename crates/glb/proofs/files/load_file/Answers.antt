@@ -1,6 +1,6 @@
 use Rattle.std.proofs.Common.{rules}
 use Rattle.glb.specs.Texts as text
-use Rattle.glb.proofs.Reading.{load_made, loaded_given, long_refused}
+use Rattle.glb.proofs.Reading.{long_refused}
 use Rattle.glb.proofs.files.load_file.Goals as goal
 
 pub returns-in-Err-TooLong-clause-bytes : goal.returns-in-Err-TooLong-clause-bytes

@@ -1,7 +1,7 @@
 use Rattle.std.proofs.Common.{rules, ◌≡◌, ◌∷◌, Some, map}
 use Rattle.std.specs.Prelude.{option_map}
 use Rattle.glb.specs.Words.{given}
-use Rattle.glb.proofs.Named.{named_failed, named_on}
+use Rattle.glb.proofs.Named.{named_on}
 use Rattle.glb.proofs.starting.+open_feeds.Goals as goal
 
 pub returns-in-Ready-clause-named : goal.returns-in-Ready-clause-named
