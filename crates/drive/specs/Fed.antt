@@ -27,7 +27,6 @@ IsOfNewest m front = (front ≡ m.history) × IsHistory m.history
 pub record HasRun {K M : Type 0} (told : K → DeviceState Written) (end : FeedEnd) (m m' : PublisherState) (a b : Outputs K M) : Type 0 where
   pub same : IsSameLent a b
   pub kept : IsPrefix m.history m'.history
-  pub announced : end ≢ SinkFault → AreTold m.history a.told → AreTold m'.history b.told
   pub later : HasNoLess told a b
   pub sink : end ≡ SinkFault → HasFault told a b
   pub sink_stays : end ≢ SinkFault → HasNoFault told a b
@@ -37,13 +36,18 @@ pub record IsFedBy {J S K M : Type 0} (fed : S → DeviceState Fed) (told : K �
   pub same : (b.mapper.ghost_name ≡ a.mapper.ghost_name) × (b.feed.ghost_name ≡ a.feed.ghost_name)
   pub run : IsFeed a.mapper.now.newest.plan a.turns b.end (fed a.feed.now).past (fed b.feed.now).past (told_by told paced a.mapper.now a.to) (told_by told paced b.mapper.now b.to)
   pub has : HasRun told b.end a.mapper.now b.mapper.now a.to b.to
+  pub announced : b.end ≢ SinkFault → AreTold a.mapper.now.history a.to.told → AreTold b.mapper.now.history b.to.told
   pub later : (fed a.feed.now).faults ≤ (fed b.feed.now).faults
   pub tied : IsTied (b.end ≡ SourceFault) (fed a.feed.now) (fed b.feed.now)
+
+-- to whom the mapper's side tells of several feeds, where no note is counted
+abbrev pub outputs_of : {J N K M : Type 0} → TakerLoan J N K M → Outputs K M
+outputs_of l = record { out = l.out; maps = l.maps; pace = l.pace; told = 0 }
 
 -- all that was taken of several feeders was worked
 pub record AreWorked {J N K M : Type 0} (told : K → DeviceState Written) (paced : M → DeviceState (List PaceCall)) (a b : TakerLoan J N K M) : Type 0 where
   pub same : (b.mapper.ghost_name ≡ a.mapper.ghost_name) × (b.taker.ghost_name ≡ a.taker.ghost_name)
   pub queue : (b.taker.now.queue ≡ a.taker.now.queue) × (b.taker.now.feeders ≡ a.taker.now.feeders)
-  pub run : AreFeeds a.taker.now.feeders b.end b.taker.now.taken (told_by told paced a.mapper.now a.to) (told_by told paced b.mapper.now b.to)
-  pub merged : b.end ≢ SinkFault → HasMerged b.taker.now.taken (told_by told paced a.mapper.now a.to) (told_by told paced b.mapper.now b.to)
-  pub has : HasRun told b.end a.mapper.now b.mapper.now a.to b.to
+  pub run : AreFeeds a.taker.now.feeders b.end b.taker.now.taken (told_by told paced a.mapper.now (outputs_of a)) (told_by told paced b.mapper.now (outputs_of b))
+  pub merged : b.end ≢ SinkFault → HasMerged b.taker.now.taken (told_by told paced a.mapper.now (outputs_of a)) (told_by told paced b.mapper.now (outputs_of b))
+  pub has : HasRun told b.end a.mapper.now b.mapper.now (outputs_of a) (outputs_of b)

@@ -78,13 +78,15 @@ impl<J: Naming, S: Source, K: Sink, M: Pace> Feeds<NoteRow<J>>
     }
 }
 
-/// What the mapper's side is lent where several feeders read: the mapper, who takes what they send, and to whom it tells; and
-/// how the feeds ended.
+/// What the mapper's side is lent where several feeders read: the mapper, who takes what they send, both outputs and the
+/// pace; and how the feeds ended.
 #[derive(Drop)]
 pub(crate) struct TakerLoan<'x, 't, 'o, 'm, 'p, J: Naming, N: Numbers, K, M> {
     pub mapper: &'x mut Mapper<J>,
     pub taker: &'t mut Taker<N>,
-    pub to: Outputs<'o, 'm, 'p, K, M>,
+    pub out: &'o mut K,
+    pub maps: &'m mut K,
+    pub pace: &'p mut M,
     pub end: FeedEnd,
 }
 
@@ -104,7 +106,13 @@ impl<J: Naming, N: Numbers, K: Sink, M: Pace> Feeds<NoteRow<J>>
     ghost noted = { λ l note. IsOfNewest l.mapper.now note.front };
 
     fn run_feed<R: Wait>(&mut self, rt: &R, row: &NoteRow<J>) {
-        self.end = self.mapper.run_feeds(rt, self.taker, &mut self.to, row);
+        let mut to = Outputs {
+            out: self.out,
+            maps: self.maps,
+            pace: self.pace,
+            told: Told::of_none(),
+        };
+        self.end = self.mapper.run_feeds(rt, self.taker, &mut to, row);
     }
 
     fn note(&self) -> Note<J> {

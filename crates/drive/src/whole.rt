@@ -281,7 +281,7 @@ fn drive_several<
     // tells the prover what the type keeps
     let _ = mapper.newest();
     let mut works = works;
-    let told = tell_first(rt, &works.row, &mapper);
+    let _ = tell_first(rt, &works.row, &mapper);
     let count = works.lanes.len();
     let lanes = &mut *lent.lanes;
     let (served, _behind) = lanes.split_at_mut(count);
@@ -297,12 +297,9 @@ fn drive_several<
         side: TakerLoan {
             mapper: &mut mapper,
             taker: &mut taker,
-            to: Outputs {
-                out: lent.out,
-                maps: lent.maps,
-                pace: lent.pace,
-                told,
-            },
+            out: lent.out,
+            maps: lent.maps,
+            pace: lent.pace,
             end: FeedEnd::Ended,
         },
         lanes: served,

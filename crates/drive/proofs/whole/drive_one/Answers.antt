@@ -34,7 +34,7 @@ returns-clause-driven g c =
         lanes = are_done_in (λ w. w.ended) _ _ _ _ _ _ _ _ c.split_at_mut-served.ensures.value done.2.0;
         stream = ended_as _ _ _ _ _ _ _ _ _ done.2.1 (length-map _ _ ∙ search rules) c.end_of.ensures;
       },
-      (λ whole. subst (λ (h : List Version). AreTold h b.to.told) done.1 (f.announced whole (c.tell_first-told.ensures (ap length opened)))),
+      (λ whole. subst (λ (h : List Version). AreTold h b.to.told) done.1 (s.fed.announced whole (c.tell_first-told.ensures (ap length opened)))),
     ) in
     rw (c.requires.one, feed, out, maps, pace, lanes) (map (λ w. w.ended) c.serve_beside.new.works.lanes.items, length-map _ _ ∙ size, c.ends_of.ensures, driven.0, λ whole. subst (λ (n : ℕ). AreTold (c.args.mapper.newest ∷ driven.0.rest) n) (sym c.told-told.ensures) (driven.1 whole))
 
