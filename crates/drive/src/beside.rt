@@ -1,4 +1,4 @@
-//! The mapper beside its lanes.
+//! The mapper beside its lanes, and behind that their closing looks.
 ghost use Rattle.std.specs.Prelude.{◌≡◌, length, vec_len};
 ghost use Rattle.std.specs.Thread.{IsSync, IsSend};
 ghost use Rattle.drive.specs.All.{HaveRun, HaveServed, MayRan};

@@ -182,7 +182,7 @@ fn run_feeders<
     join_told(rt, &mut one, &mut others);
 }
 
-/// Runs all feeders, and beside them the mapper's side, in this thread, and the lanes.
+/// Runs all feeders, and beside them the mapper's side, in this thread, and the lanes, of which each has its closing look.
 pub(crate) fn run_among<
     Q: Starts + Sync,
     F: Fresh + Drop + Send,

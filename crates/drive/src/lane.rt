@@ -132,7 +132,7 @@ pub(crate) trait Runs<W, H> {
         ensures { ran self.old self.new work.old work.new };
 }
 
-/// What is closed when all threads have ended.
+/// What is closed when the threads of all lanes have ended.
 pub(crate) trait Closes<N, H> {
     ghost closed: { N → Self → Self → H → H → Type 0 };
 
