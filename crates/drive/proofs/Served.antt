@@ -3,7 +3,6 @@ use Rattle.std.proofs.Common.{◌≡◌, ◌∙◌, ◌++◌, ℕ, List, [], ◌
 use mathlib.Core.List.{IsPrefix}
 use Rattle.published_map.specs.Version.{Version}
 use Rattle.map_cell.specs.Ends.{PublisherState}
-use Rattle.map_cell.specs.declared.viewer.Note.{Note}
 use Rattle.drive.specs.All.{HaveServed}
 use Rattle.drive.specs.AllDone.{AllHeld, AreServed, IsClosed, IsFresh, IsServed, IsStreamServed}
 use Rattle.drive.specs.Done.{LaneTold, StreamLaneTold}
@@ -16,9 +15,9 @@ use Rattle.drive.proofs.Holding.{fresh_of}
 use Rattle.drive.proofs.Together.{all_done, may_done}
 
 -- from a history of one version on
-pub are_served : {J W : Type 0} (turns : ℕ) (first : Version) (h : List Version) (m : PublisherState) (lanes lanes' : List LaneTold) (stream stream' : StreamLaneTold) (works works' : Workers W (LaneWorker J))
+pub are_served : {J W N : Type 0} {front : N → List Version} (turns : ℕ) (first : Version) (h : List Version) (m : PublisherState) (lanes lanes' : List LaneTold) (stream stream' : StreamLaneTold) (works works' : Workers W (LaneWorker J))
     → h ≡ first ∷ [] → IsPrefix h m.history → AllHeld (IsFresh h turns) 0 works.lanes.items → IfSome works.stream (IsFresh h turns (vec_len works.lanes)) → length lanes ≡ length works.lanes.items
-    → HaveServed (λ (n : Note J). IsOfNewest m n.front) IsServed (λ (n : Note J). IsClosed n.front) IsStreamServed (λ (n : Note J). IsClosed n.front) lanes lanes' stream stream' works works'
+    → HaveServed (λ n. IsOfNewest m (front n)) IsServed (λ n. IsClosed (front n)) IsStreamServed (λ n. IsClosed (front n)) lanes lanes' stream stream' works works'
     → (rest : List Version) × (m.history ≡ first ∷ rest) × AreServed turns first rest lanes lanes' stream stream' works'
 are_served turns first h m lanes lanes' stream stream' works works' opened kept fresh listener size s =
     let is : m.history ≡ first ∷ kept.0 = sym kept.1 ∙ ap (λ l. l ++ kept.0) opened in
