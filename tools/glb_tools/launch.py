@@ -23,9 +23,10 @@ from glb_tools.options import DONE, FAULT, WRONG_WORDS, Fault, parser, said
 ABOUT = """Starts `glb serve` on sockets made for it. Behind `--` come the server's words, the program first.
 
 Each worker gets a UDP socket of its own, with a filter that drops what has no reply (fewer than twelve octets, or a
-reply itself), and with the interface's MTU whatever ICMP says. The server takes the sockets as it takes systemd's; those that
-systemd hands to the launcher are shielded and handed on. Without --stay the launcher becomes the server. With it, it stays beside the server: it tells systemd (Type=notify) when
-the server answers, keeps a watchdog by asking it, and at SIGTERM ends it by a line `stop` in --feed."""
+reply itself), and with the interface's MTU whatever ICMP says. The server takes the sockets as it takes systemd's; those
+that systemd hands to the launcher are shielded and handed on. Without --stay the launcher becomes the server. With --stay
+it remains beside the server: it tells systemd (Type=notify) when the server answers, keeps a watchdog by asking the server,
+and at SIGTERM ends the server by a line `stop` in --feed."""
 STATUSES = {
     DONE: "the server ended so (its own statuses are handed on)",
     FAULT: "a socket, a pipe or the program cannot be had; or the server's status 1",
@@ -72,7 +73,7 @@ def address_in(text: str, option: str) -> tuple[str, int]:
     except OSError:
         number = 0
     if not 1 <= number <= 65535:
-        raise Fault(f"{option} {text}: no ADDR:PORT", WRONG_WORDS)
+        raise Fault(f"{option} {text}: no ADDR:PORT with a port from 1 to 65,535", WRONG_WORDS)
     return bare, number
 
 

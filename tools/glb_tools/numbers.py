@@ -43,12 +43,21 @@ def report(topology: Topology, replay: Replay) -> dict[str, Any]:
     }
 
 
+def first_of(refused: list[tuple[int, str]]) -> str:
+    return ", ".join(f"{at} {why}" for at, why in refused[:MOST_REFUSED])
+
+
 def warn(replay: Replay) -> None:
     for line, refused in replay.dropped:
-        said = ", ".join(f"{at} {why}" for at, why in refused[:MOST_REFUSED])
-        print(f"the batch that ends in line {line} was dropped: refused {said}", file=sys.stderr)
+        print(
+            f"the batch that ends in line {line} was dropped: refused {first_of(refused)}",
+            file=sys.stderr,
+        )
     if replay.batch or replay.refused:
-        print(f"{len(replay.batch)} changes behind the last commit do not count", file=sys.stderr)
+        said = f"changes {len(replay.batch)}"
+        if replay.refused:
+            said += f", refused {first_of(replay.refused)}"
+        print(f"what stands behind the last commit does not count: {said}", file=sys.stderr)
     if replay.is_stopped:
         print(
             f"line {replay.line} is `stop`: a server that reads this log ends there",

@@ -49,6 +49,13 @@ class Served:
     map: bytes
 
 
+def program_fault(glb: str, why: OSError) -> str:
+    """Why the program cannot be run, and, of one that the PATH does not have, how to name it."""
+    return f"{glb}: {why.strerror}" + (
+        "" if "/" in glb else " in the PATH: --glb names the program"
+    )
+
+
 def asked(glb: str, command: str, *octets: bytes, patience: float | None = None) -> bytes:
     """What the program writes for a command over these files, within so many seconds; a refusal is told."""
     with tempfile.TemporaryDirectory(prefix="glb-plan-") as folder:
@@ -60,7 +67,7 @@ def asked(glb: str, command: str, *octets: bytes, patience: float | None = None)
         try:
             ended = subprocess.run([glb, command, *paths], capture_output=True, timeout=patience)
         except OSError as why:
-            raise Fault(f"{glb}: {why.strerror}") from None
+            raise Fault(program_fault(glb, why)) from None
         except subprocess.TimeoutExpired:
             raise Fault(f"{glb} {command} took longer than {patience:g} s") from None
     if ended.returncode in (2, 7):
@@ -278,7 +285,7 @@ def served_by_log(glb: str, topology: bytes, log: bytes) -> Served:
                     assert server.stderr
                     found = last_map(server.stderr)
             except OSError as why:
-                raise Fault(f"{glb}: {why.strerror}") from None
+                raise Fault(program_fault(glb, why)) from None
     if server.returncode or not found.startswith(b"glb map "):
         raise Fault(f"{glb} serve ended with {server.returncode} over the topology and its log")
     return Served(written(names, numbers).encode(), found)

@@ -23,7 +23,15 @@ class Numbers(Case):
         self.assertEqual(
             said,
             "the batch that ends in line 6 was dropped: refused 4 unknown name\n"
-            "1 changes behind the last commit do not count\n",
+            "what stands behind the last commit does not count: changes 1\n",
+        )
+
+    def test_refused_behind_the_last_commit(self):
+        log = self.file("log", "demand g1 6\ncommit\ndemand g1 x\n\n")
+        _, _, said = self.run_main(main, self.small(), log)
+        self.assertEqual(
+            said,
+            "what stands behind the last commit does not count: changes 0, refused 3 bad number, 4 unknown word\n",
         )
 
     def test_no_change(self):

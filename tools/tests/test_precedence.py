@@ -68,7 +68,7 @@ class TheTable(unittest.TestCase):
 
 
 class Model:
-    """What should stand, as docs/OPERATING.md says it: an own reckoning of the events."""
+    """What should stand, as docs/operating/out-of-service.md says it: an own reckoning of the events."""
 
     def __init__(self):
         self.hand, self.drain, self.is_down, self.before = None, None, False, 60

@@ -16,8 +16,6 @@ use Rattle.answer_core.specs.Columns.{rcode}
 use Rattle.answer_core.specs.Grammar.{Query, Request, datagram_of}
 use Rattle.answer_core.specs.Outcome.{by_name, of_addresses, of_pool, pool_for, service_of}
 use Rattle.answer_core.specs.Reply.{cut_short, fitted, full, reply_to}
-use Rattle.answer_core.specs.declared.outcome.Outcome.{Outcome}
-use Rattle.answer_core.specs.declared.outcome.Outcome.TheVariants.{BadVers, Error, Negative, Positive, Truncated}
 use Rattle.answer_core.specs.declared.way.Way.TheVariants as way
 use Rattle.mapper.specs.Words.{reply_by}
 use Rattle.big_run.specs.Replies.{client_of, count_of, has_code, is_code_of, is_reply_of, question}
@@ -68,30 +66,27 @@ code_at v kind scope (Some pool) = go (addresses_of v.plan pool kind)
     go [] = inl refl
     go (a ∷ more) = inl refl
 
--- the fourth octet of the reply holds the code
-code_told : (z : Zone) (outcome : Outcome (List Addr)) (code : ℕ) → is_code_of code (full z request outcome) ≡ (rcode outcome % 16 % 16 == code)
-code_told z outcome code = refl
-
 -- what is cut short has the same code
-code_kept : (o : Outcome (List Addr)) → rcode (cut_short o) ≡ rcode o
-code_kept BadVers = refl
-code_kept (Error code) = refl
-code_kept (Negative code) = refl
-code_kept (Positive records scope) = refl
-code_kept (Truncated scope) = refl
+code_kept : (v : Version) (kind scope : ℕ) (pool : Option ℕ) → rcode (cut_short (of_pool v kind scope pool)) ≡ rcode (of_pool v kind scope pool)
+code_kept v kind scope None = refl
+code_kept v kind scope (Some pool) = go (addresses_of v.plan pool kind)
+  where
+    go : (addresses : List Addr) → rcode (cut_short (of_addresses kind addresses scope)) ≡ rcode (of_addresses kind addresses scope)
+    go [] = refl
+    go (a ∷ more) = refl
 
-code_fitted : (fits : Bool) (o : Outcome (List Addr)) → rcode (if fits then o else cut_short o) ≡ rcode o
-code_fitted true o = refl
-code_fitted false o = code_kept o
+-- the fourth octet of the reply holds the code, whether or not it is cut short
+code_told : (z : Zone) (v : Version) (pool : Option ℕ) (fits : Bool) (code : ℕ) → is_code_of code (full z request (if fits then of_pool v 1 0 pool else cut_short (of_pool v 1 0 pool))) ≡ (rcode (of_pool v 1 0 pool) % 16 % 16 == code)
+code_told z v pool true code = refl
+code_told z v pool false code = ap (λ c. c % 16 % 16 == code) (code_kept v 1 0 pool)
 
 reply_is : (v : Version) (g code : ℕ) → v.plan.zone ≡ zone_of (Some zone_data) → has_code v code g ≡ (rcode (of_pool v 1 0 (pool_for v (client_of g) 0 0)) % 16 % 16 == code)
 unfolding has_code reply_by
 reply_is v g code zone =
-    let stated = of_pool v 1 0 (pool_for v (client_of g) 0 0) in
+    let pool = pool_for v (client_of g) 0 0 in
     ap (λ d. is_reply_of code (reply_to v (client_of g) d 0 way.Datagram)) asked_is
     ∙ ap (λ o. is_code_of code (full v.plan.zone request (fitted 512 v.plan.zone request o))) (at_name v (client_of g) zone)
-    ∙ code_told v.plan.zone (fitted 512 v.plan.zone request stated) code
-    ∙ ap (λ c. c % 16 % 16 == code) (code_fitted (nat_le (length (full v.plan.zone request stated)) 512) stated)
+    ∙ code_told v.plan.zone v pool (nat_le (length (full v.plan.zone request (of_pool v 1 0 pool))) 512) code
 
 -- each group's reply has one of the two codes, and not both
 pub one_of_two : (v : Version) (g : ℕ) → v.plan.zone ≡ zone_of (Some zone_data) → ((has_code v 0 g ≡ true) × (has_code v 2 g ≡ false)) ⊎ ((has_code v 0 g ≡ false) × (has_code v 2 g ≡ true))

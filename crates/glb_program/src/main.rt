@@ -14,7 +14,7 @@ use edges::{
     FileShelf, FlagPace, NamedStream, SharedTcp, SharedUdp, StandardStream, StopFlag, StreamSink,
     StreamSource,
 };
-use glb::{Lane, MOST_TURNS, Status, StreamLane, glb};
+use glb::{MOST_TURNS, Status, glb};
 use map_cell::Door;
 use network::{Network, lanes_of};
 use no_memory::NoMemory;
@@ -42,6 +42,20 @@ fn exit_code(status: Status) -> ExitCode
     ExitCode::from(status.code())
 }
 
+/// The feed, and three sources of further feeds.
+#[derive(Drop)]
+struct Feeds<S, N> {
+    first: S,
+    more: [N; 3],
+}
+
+/// Where all that is said goes, and where the texts of maps go.
+#[derive(Drop)]
+struct Outputs<K> {
+    out: K,
+    maps: K,
+}
+
 /// All of the program behind its words, which it reads: over these files, this feed, these sources of further feeds, these
 /// outputs and these lanes.
 fn run_words<
@@ -58,26 +72,25 @@ fn run_words<
 >(
     rt: &R,
     files: &mut F,
-    feed: &mut S,
-    more: &mut [N],
-    out: &mut K,
-    maps: &mut K,
-    lanes: &mut [Lane<P, G, D>],
-    stream: &mut StreamLane<Q, G, D>,
+    feeds: &mut Feeds<S, N>,
+    outputs: &mut Outputs<K>,
+    network: &mut Network<P, Q, G, D>,
     pace: &mut M,
 ) -> Status
-    requires feeds { length more.old ≡ 3 }
-    requires lanes { length lanes.old ≡ 16 }
+    requires lanes { length network.old.lanes.items ≡ 16 }
     // All of it is new: so each count of faults counts from 0 on, and what is told is all that was ever asked.
     requires fresh { (all_told F.told S.told N.told K.told M.told
-        files.old feed.old more.old out.old maps.old lanes.old stream.old pace.old)
+        files.old feeds.old.first feeds.old.more outputs.old.out outputs.old.maps
+        network.old.lanes.items network.old.stream pace.old)
         ≡ new_surroundings }
     // Unless the words could not be read for want of memory, where nothing is touched, it is a run of what some words ask for.
     ensures { Ran
         (all_told F.told S.told N.told K.told M.told
-        files.old feed.old more.old out.old maps.old lanes.old stream.old pace.old)
+        files.old feeds.old.first feeds.old.more outputs.old.out outputs.old.maps
+        network.old.lanes.items network.old.stream pace.old)
         (all_told F.told S.told N.told K.told M.told
-        files.new feed.new more.new out.new maps.new lanes.new stream.new pace.new)
+        files.new feeds.new.first feeds.new.more outputs.new.out outputs.new.maps
+        network.new.lanes.items network.new.stream pace.new)
         result }
 {
     match read_args(rt) {
@@ -86,12 +99,12 @@ fn run_words<
             rt.alloc(),
             words.as_slice(),
             files,
-            feed,
-            more,
-            out,
-            maps,
-            lanes,
-            stream,
+            &mut feeds.first,
+            &mut feeds.more,
+            &mut outputs.out,
+            &mut outputs.maps,
+            network.lanes.as_mut_slice(),
+            &mut network.stream,
             pace,
             MOST_TURNS,
         ),
@@ -107,33 +120,29 @@ fn main(rt: HostRuntime) -> ExitCode {
     let host = &rt;
     let work = move || -> Status {
         let mut files = FileShelf::new(host);
-        let mut feed = StreamSource::new(host.stdin());
-        let mut more = [
-            NamedStream::new(host),
-            NamedStream::new(host),
-            NamedStream::new(host),
-        ];
-        let mut out = StreamSink::new(StandardStream::Output(host.stdout()));
-        let mut maps = StreamSink::new(StandardStream::Error(host.stderr()));
+        let mut feeds = Feeds {
+            first: StreamSource::new(host.stdin()),
+            more: [
+                NamedStream::new(host),
+                NamedStream::new(host),
+                NamedStream::new(host),
+            ],
+        };
+        let mut outputs = Outputs {
+            out: StreamSink::new(StandardStream::Output(host.stdout())),
+            maps: StreamSink::new(StandardStream::Error(host.stderr())),
+        };
         let udp = SharedUdp::new();
         let tcp = SharedTcp::new();
         let flag = StopFlag::new();
         let mut pace = FlagPace::new(&flag);
         match lanes_of(host.alloc(), host, &udp, &tcp, &flag) {
-            Ok(
-                Network {
-                    mut lanes,
-                    mut stream,
-                },
-            ) => run_words(
+            Ok(mut network) => run_words(
                 host,
                 &mut files,
-                &mut feed,
-                &mut more,
-                &mut out,
-                &mut maps,
-                lanes.as_mut_slice(),
-                &mut stream,
+                &mut feeds,
+                &mut outputs,
+                &mut network,
                 &mut pace,
             ),
             Err(NoMemory) => Status::NoMemory,

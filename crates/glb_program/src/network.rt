@@ -5,8 +5,9 @@ ghost use Rattle.glb_program.specs.Fresh.{new_lane, new_stream_lane};
 
 use edges::{FlagGate, ManyStreams, SharedTcp, SharedUdp, StopFlag, UdpPort};
 use glb::{Lane, StreamLane};
-use map_cell::{MOST_VIEWERS, PlainDoor};
+use map_cell::{Door, MOST_VIEWERS, PlainDoor};
 use no_memory::NoMemory;
+use outside::{Gate, Port, Streams};
 use std::alloc::Global;
 use std::net::Net;
 use std::time::Clock;
@@ -47,15 +48,20 @@ const CONNECTIONS: usize = 256;
 /// How many of them those of one address are at most, where addresses of IPv6 count as one by their first 64 bits.
 const CONNECTIONS_OF_ONE: usize = 32;
 
-/// A lane for conversations over connections of TCP.
-pub type TcpLane<'a, R> = StreamLane<ManyStreams<'a, R>, FlagGate<'a>, PlainDoor>;
-
 /// All lanes: as many for datagrams as there may be workers, and one for conversations.
 #[derive(Drop)]
-pub struct Network<'a, R: Net + Clock> {
-    pub lanes: Vec<UdpLane<'a, R>>,
-    pub stream: TcpLane<'a, R>,
+pub struct Network<P: Port, Q: Streams, G: Gate, D: Door> {
+    pub lanes: Vec<Lane<P, G, D>>,
+    pub stream: StreamLane<Q, G, D>,
 }
+
+/// The same over sockets of the system.
+pub type SocketNetwork<'a, R> = Network<
+    UdpPort<'a, R>,
+    ManyStreams<'a, R>,
+    FlagGate<'a>,
+    PlainDoor,
+>;
 
 /// All lanes, none of them opened, with one flag.
 pub fn lanes_of<'a, R: Net + Clock>(
@@ -64,7 +70,7 @@ pub fn lanes_of<'a, R: Net + Clock>(
     udp: &'a SharedUdp,
     tcp: &'a SharedTcp,
     flag: &'a StopFlag,
-) -> Result<Network<'a, R>, NoMemory>
+) -> Result<SocketNetwork<'a, R>, NoMemory>
     ensures lanes { IfOk result (λ n. n.lanes.items ≡ replicate 16 new_lane) }
     ensures stream { IfOk result (λ n. n.stream ≡ new_stream_lane) }
 {

@@ -29,4 +29,3 @@ pub mod SoundHosts
 pub mod SoundNames
 pub mod SoundPrefixes
 pub mod ZoneNames
-pub mod NoMemory

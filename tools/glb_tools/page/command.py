@@ -6,7 +6,7 @@
 A `glb serve` of the page's own, the mirror, works the log beside the servers: no server is asked for anything, nothing is
 put into etcd or a log, and no request changes anything. It answers at http://127.0.0.1:9855/ unless told otherwise. Where
 others reach the address it wants --token, or --user-header of a reverse proxy that asks who it is. It runs until it is
-ended. docs/OPERATING.md has the rest ("A page to look at").
+ended. docs/operating/page.md has the rest.
 """
 
 import argparse

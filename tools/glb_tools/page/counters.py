@@ -13,7 +13,7 @@ from glb_tools.options import WRONG_WORDS, Fault
 LISTS = (Path("/proc/self/net/udp"), Path("/proc/self/net/udp6"))
 # how long a program may take that says a counter, in seconds, and how much of what it says is read
 PATIENCE, MOST = 2.0, 1 << 20
-# the rule of nftables that counts queries begins its remark so (docs/OPERATING.md, "Counts")
+# the rule of nftables that counts queries begins its remark so (docs/operating/strangers.md, "Counts")
 QUERIES = "queries"
 NO_DATA = 2**64 - 1
 # a socket that is bound and not connected
