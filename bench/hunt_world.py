@@ -90,7 +90,8 @@ class Way:
         self.tasks.add(task)
         try:
             await self.carried(reader, writer)
-        except (OSError, asyncio.IncompleteReadError):
+        except (OSError, asyncio.IncompleteReadError, asyncio.CancelledError):
+            # (of a handler that ends cancelled, asyncio of Python 3.11 prints a traceback)
             pass
         finally:
             self.tasks.discard(task)

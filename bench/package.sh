@@ -36,6 +36,8 @@ if [ -n "$old" ]; then
 fi
 
 ok 'glb is installed, with what it needs alone' inside dpkg -i /packages/glb_1.1_amd64.deb
+# a folder of the old one is its units' matter (StateDirectory=)
+[ -n "$old" ] || ok 'its folder belongs to glb' inside sh -c 'test "$(stat -c %U:%G:%a /var/lib/glb)" = glb:glb:755'
 ok 'its program maps' inside sh -c 'glb map /packages/tree.toml | cmp - /packages/tree.map'
 for name in append follow fleet log roll; do ok "glb-$name runs as glb" inside su -s /bin/sh glb -c "glb-$name --version | grep -q '^glb-$name 1.1$'"; done
 ok 'what it was built from' inside sh -c 'grep -q "^program $(sha256sum </usr/bin/glb | cut -d" " -f1)" /usr/share/doc/glb/build'

@@ -9,10 +9,44 @@
 # off leaves /etc/glb and /var/lib/glb; `apt purge` takes these, the user and all else that it left, too.
 set -euo pipefail
 top=$(cd "$(dirname "$0")/.." && pwd)
-version=${1:?'tools/deb.sh VERSION [FOLDER]'}
-folder=${2:-.}
 glb=${GLB:-$top/crates/glb_program/out/glb_program}
 maintainer="${DEBFULLNAME:-Whoever built it} <${DEBEMAIL:-root@localhost}>"
+
+# fault STATUS WORDS: ends with a line that says what to do
+fault() {
+    echo "tools/deb.sh: $2" >&2
+    exit "$1"
+}
+
+case ${1:-} in
+--help)
+    cat <<HELP
+usage: tools/deb.sh VERSION [FOLDER]
+
+Makes two packages of Debian, glb and glb-tools, in half a minute. VERSION begins
+with a digit, as 1.0; the packages go into FOLDER, or here. GLB names the built
+program; crates/glb_program/out/glb_program of the repository if it is not set.
+
+exit status:
+  0     done
+  1     something is not there, or cannot be written: one line on standard error says what
+  64    a word that the command does not have
+HELP
+    exit
+    ;;
+esac
+if [ $# -gt 2 ] || ! [[ ${1:-} =~ ^[0-9][A-Za-z0-9.+~-]*$ ]]; then
+    fault 64 'VERSION [FOLDER] are wanted, and a version begins with a digit, as 1.0 (see tools/deb.sh --help)'
+fi
+version=$1
+folder=${2:-.}
+lacking=
+for needed in dpkg-deb:dpkg gzip:gzip python3:python3 strip:binutils; do
+    command -v "${needed%:*}" >/dev/null || lacking="$lacking ${needed#*:}"
+done
+[ -z "$lacking" ] || fault 1 "it needs what is not installed here: apt-get install$lacking"
+[ -f "$glb" ] || fault 1 "there is no program at $glb: build it as README.md says, or name it by GLB"
+[ -d "$folder" ] && [ -w "$folder" ] || fault 1 "no package can be written into the folder $folder: make it, or name another one"
 # what a server needs, with Python's own library alone; all others are of glb-tools
 server_commands="append follow fleet launch log roll"
 roots=$(mktemp -d)
@@ -231,7 +265,8 @@ cat >"$server/DEBIAN/postinst" <<SCRIPT
 set -e
 if [ "\$1" = configure ]; then
     adduser --system --quiet --group --no-create-home --home /nonexistent glb
-    install -d -m 755 /var/lib/glb
+    # one that is there belongs to whom it did: StateDirectory= of the units gives all of it to glb
+    [ -d /var/lib/glb ] || install -d -m 755 -o glb -g glb /var/lib/glb
 fi
 $postinst_of_both
 SCRIPT

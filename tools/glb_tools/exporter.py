@@ -192,6 +192,7 @@ class Fleet(Collector):  # type: ignore[misc]
         self.report: Report | None = None
         self.quotas: dict[str, float] = {}
         self.looked = 0.0
+        self.told: str | None = None
 
     def run(self) -> None:
         while True:
@@ -206,9 +207,12 @@ class Fleet(Collector):  # type: ignore[misc]
             answering = [member for member, told in found.members.items() if told is not None]
             self.quotas = {member: quota_of(self.log.etcd, member) for member in answering}
         except Exception as why:
-            # whatever it is: a thread that has ended would serve old values for ever
-            tell(why)
-            found = None
+            # whatever it is: a thread that has ended would serve old values for ever; the same fault is told once
+            if str(why) != self.told:
+                tell(why)
+            self.told, found = str(why), None
+        else:
+            self.told = None
         # what cannot be seen any more is not served as if it were seen
         self.report, self.looked = found, time.time()
 

@@ -21,6 +21,7 @@ from glb_tools.etcd import Unreachable
 from glb_tools.history import handed
 from glb_tools.log import Base, Entry, Log, Look
 from glb_tools.options import Fault, tell
+from glb_tools.plan import program_fault
 from glb_tools.server import END
 from glb_tools.text import Replay
 from glb_tools.topology import Topology
@@ -110,12 +111,15 @@ class Shadow:
         try:
             path = Path(self.folder, "topology.toml")
             path.write_bytes(topology)
-            self.process = subprocess.Popen(
-                [program, "serve", str(path), "--listen", "127.0.0.1:0"],
-                stdin=subprocess.PIPE,
-                stdout=subprocess.PIPE,
-                stderr=subprocess.PIPE,
-            )
+            try:
+                self.process = subprocess.Popen(
+                    [program, "serve", str(path), "--listen", "127.0.0.1:0"],
+                    stdin=subprocess.PIPE,
+                    stdout=subprocess.PIPE,
+                    stderr=subprocess.PIPE,
+                )
+            except OSError as why:
+                raise Fault(program_fault(program, why)) from None
             self.reader = threading.Thread(target=self.read, daemon=True)
             self.reader.start()
             self.wait_for_map(0)

@@ -243,6 +243,21 @@ class Fleets(unittest.TestCase):
         fleet.look()
         self.assertIsNone(fleet.report)
 
+    def test_a_fault_is_told_once(self):
+        world = World(1)
+        world.settle()
+        world.log.etcd.members = []
+        fleet = exporter.Fleet(world.log, 5)
+        with (
+            mock.patch.object(exporter, "tell") as told,
+            mock.patch.object(Etcd, "alarms", lambda self: []),
+        ):
+            for why in ("a", "a", None, "a", "b"):
+                failing = mock.patch.object(exporter, "report", side_effect=Fault(why))
+                with failing if why else contextlib.nullcontext():
+                    fleet.look()
+        self.assertEqual([str(call.args[0]) for call in told.call_args_list], ["a", "a", "b"])
+
 
 class Commands(Case):
     def test_refused_words(self):

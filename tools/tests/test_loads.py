@@ -144,7 +144,17 @@ class Shadows(Played):
 
     def test_no_program(self):
         with mock.patch.object(loads.tempfile, "tempdir", str(self.folder)):
-            self.assertRaises(OSError, Shadow, "/nowhere/glb", SMALL.encode())
+            for program, said in (
+                ("/nowhere/glb", "/nowhere/glb: No such file or directory"),
+                (
+                    "no-glb",
+                    "no-glb: No such file or directory in the PATH: --glb names the program",
+                ),
+                (str(self.folder), f"{self.folder}: Permission denied"),
+            ):
+                with self.assertRaises(Fault) as found:
+                    Shadow(program, SMALL.encode())
+                self.assertEqual(str(found.exception), said)
             self.assertRaisesRegex(Fault, "no map 0 came", Shadow, "/bin/false", SMALL.encode())
         self.assertEqual([path.name for path in self.folder.iterdir()], ["glb"])
 

@@ -4,10 +4,12 @@ import re
 import shutil
 import subprocess
 import tempfile
+import tomllib
 import unittest
 from pathlib import Path
 
-from samples import EXAMPLES, Case
+from glb_tools import drains, place
+from samples import EXAMPLES, TOOLS, Case
 
 SERVICES = sorted(EXAMPLES.glob("*.service"))
 SERVERS = [path for path in SERVICES if "glb serve" in path.read_text().partition("ExecStart=")[2]]
@@ -29,7 +31,69 @@ def started(path, **settings):
     return out.stdout.decode().splitlines()
 
 
+def commands(path):
+    return "\n".join(re.findall(r"(?m)^Exec\w+=(.*)$", path.read_text()))
+
+
+def written(path):
+    """The folders that a unit's commands write into, by the settings that are shipped."""
+    said, found = commands(path), set()
+    if "/glb-drain " in said:
+        *_, log = value(EXAMPLES / "glb-drain.default", "OPTIONS").strip('"').split()
+        found.add(Path(log).parent)
+    if "/glb-watch " in said:
+        found.add(Path(tomllib.loads((EXAMPLES / "watch.toml").read_text())["log"]).parent)
+    if "/glb-follow " in said:
+        found.add(Path(place.BASES).parent)
+        found |= {Path(run) for run in re.findall(r"--run (\S+)", said)}
+    found |= {Path(file).parent for file in re.findall(r"--text-file (\S+?)[ ']", said + " ")}
+    found |= {Path(file).parent for file in re.findall(r"mkfifo -m \d+ (\S+)", said)}
+    return found
+
+
+def made(path):
+    """The folders that systemd makes for a unit, and gives to its user."""
+    folders = {"/var/lib": value(path, "StateDirectory"), "/run": value(path, "RuntimeDirectory")}
+    return {Path(top, name) for top, name in folders.items() if name}
+
+
 class Units(unittest.TestCase):
+    def test_each_may_write_where_it_writes(self):
+        for path in SERVICES:
+            with self.subTest(path.name):
+                own, other = made(path), value(path, "ReadWritePaths")
+                server = value(path, "BindsTo")
+                if other and value(path, "User") and server:
+                    # the server's folder, which is the same user's and is there as long as this unit runs
+                    there = EXAMPLES / server.replace("%i", "")
+                    self.assertEqual(value(there, "User"), value(path, "User"))
+                    self.assertIn(Path(other), made(there))
+                elif other:
+                    # a folder that nobody gives to a user is root's
+                    self.assertEqual(value(path, "User"), None, other)
+                may = own | ({Path(other)} if other else set())
+                self.assertLessEqual(written(path), may)
+
+    def test_the_log_is_its_writers(self):
+        """Whatever makes the folder of the log gives it to the user of the units that write there."""
+        line = re.findall(r"install -d .*/var/lib/glb$", (TOOLS / "deb.sh").read_text(), re.M)
+        self.assertEqual(line, ["install -d -m 755 -o glb -g glb /var/lib/glb"])
+        count = 0
+        for page in sorted((TOOLS.parent / "docs").rglob("*.md")):
+            for block in re.findall(r"(?m)(?:^    .*\n)+", page.read_text()):
+                if "touch /var/lib/glb/changes.log" in block:
+                    count += 1
+                    with self.subTest(page.name):
+                        self.assertRegex(block, r"chown (-R )?glb:glb /var/lib/glb")
+        self.assertEqual(count, 2)
+
+    def test_which_start_of_the_machine_it_is(self):
+        """glb-drain tells one start from another by a file that is hidden where only processes are shown."""
+        self.assertFalse(drains.BOOT.is_relative_to("/proc/self"))
+        for path in SERVICES:
+            if "/glb-drain " in commands(path):
+                self.assertEqual(value(path, "ProcSubset"), None)
+
     def test_each_has_a_name_in_the_journal(self):
         for path in SERVICES:
             with self.subTest(path.name):
