@@ -1,6 +1,7 @@
 mod Told
 pub mod Joined
 pub mod Together
+mod Served
 pub mod Holding
 pub mod Noted
 pub mod Finished

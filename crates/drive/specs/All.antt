@@ -17,6 +17,16 @@ pub record MayRan {A W : Type 0} (R : A → A → W → W → Type 0) (x y : A) 
 abbrev pub HaveRun : {A W Z : Type 0} → (A → A → W → W → Type 0) → List A → List A → Vec W Z → Vec W Z → Type 0
 HaveRun R xs ys v w = AllRan R xs ys v.items w.items × (vec_len w ≡ vec_len v) × (vec_capacity w ≡ vec_capacity v)
 
--- the workers of the lanes, each with its own, and the one for conversations, where there is one
-abbrev pub HaveServed : {A B C H : Type 0} → (A → A → H → H → Type 0) → (B → B → H → H → Type 0) → List A → List A → B → B → Workers C H → Workers C H → Type 0
-HaveServed R Q xs ys x y v w = AllRan R xs ys v.lanes.items w.lanes.items × MayRan Q x y v.stream w.stream × (vec_len w.lanes ≡ vec_len v.lanes)
+-- The workers of the lanes, each with its own, and the one for conversations, where there is one: they ran, and were closed then, with a note that is so.
+pub record HaveServed {A B W H N : Type 0} (Noted : N → Type 0) (R : A → A → H → H → Type 0) (C : N → A → A → H → H → Type 0) (Q : B → B → H → H → Type 0) (D : N → B → B → H → H → Type 0) (xs ys : List A) (x y : B) (v w : Workers W H) : Type 0 where
+  pub note : N
+  pub noted : Noted note
+  pub lanes : List A
+  pub served : List H
+  pub ran : AllRan R xs lanes v.lanes.items served
+  pub closed : AllRan (C note) lanes ys served w.lanes.items
+  pub stream : B
+  pub listener : Option H
+  pub stream_ran : MayRan Q x stream v.stream listener
+  pub stream_closed : MayRan (D note) stream y listener w.stream
+  pub len : vec_len w.lanes ≡ vec_len v.lanes

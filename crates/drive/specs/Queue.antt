@@ -8,7 +8,7 @@ use Rattle.drive.specs.declared.queue.FeedQueue.{FeedQueue}
 
 -- one for the first feed and so many further ones, over a topology with so many groups and nodes, of which nothing was sent
 pub record IsFeedQueue {N : Type 0} (groups nodes count : ℕ) (t : Plan) (q : FeedQueue N) : Type 0 where
-  pub topology : arc_value q.desk.topology ≡ t
+  pub topology : arc_value q.context.topology ≡ t
   pub groups_are : length t.market.groups ≡ groups
   pub nodes_are : length t.market.nodes ≡ nodes
   pub first : q.first ≡ fresh_feeder q.taker.queue 0

@@ -1,11 +1,11 @@
-//! The mapper beside its lanes.
+//! The mapper beside its lanes, and behind that their closing looks.
 ghost use Rattle.std.specs.Prelude.{◌≡◌, length, vec_len};
 ghost use Rattle.std.specs.Thread.{IsSync, IsSend};
-ghost use Rattle.drive.specs.All.{AllRan, HaveRun, MayRan};
+ghost use Rattle.drive.specs.All.{HaveRun, HaveServed, MayRan};
 
 use crate::fork::join_both;
-use crate::joins::run_all;
-use crate::lane::Runs;
+use crate::joins::{close_all, close_more, run_all};
+use crate::lane::{Closes, Runs};
 use std::sync::Wait;
 use std::thread::Threads;
 
@@ -20,15 +20,24 @@ pub(crate) struct Workers<W, H> {
 
 /// The mapper's side of a drive, beside what the workers share.
 pub(crate) trait Feeds<W> {
+    type Note;
+
     /// Whether it may run.
     ghost ready: { Self → Type 0 };
 
     /// What a run does.
     ghost fed: { Self → Self → Type 0 };
 
+    /// What its note is.
+    ghost noted: { Self → Self.Note → Type 0 };
+
     fn run_feed<R: Wait>(&mut self, rt: &R, row: &W)
         requires { ready self.old }
         ensures { fed self.old self.new };
+
+    /// The note of its newest map.
+    fn note(&self) -> Self::Note
+        ensures { noted self.now result };
 }
 
 /// Runs the feed beside one lane.
@@ -72,21 +81,22 @@ fn run_rest<W: Sync, H: Drop + Send, U: Runs<W, H> + Send, F: Feeds<W>, R: Threa
     }
 }
 
-/// Runs the feed beside the lanes, and beside one more, if there is a worker for that.
-pub(crate) fn run_beside<
+/// Runs the feed beside the lanes, and beside one more, if there is a worker for that, and then makes the closing look of
+/// each.
+pub(crate) fn serve_beside<
     W: Sync,
+    N: Drop,
     H: Drop + Send,
-    T: Runs<W, H> + Send,
-    U: Runs<W, H> + Send,
-    F: Feeds<W>,
+    T: Runs<W, H> + Closes<N, H> + Send,
+    U: Runs<W, H> + Closes<N, H> + Send,
+    F: Feeds<W, Note = N>,
     R: Threads + Wait + Sync,
 >(rt: &R, works: &mut Workers<W, H>, lanes: &mut [T], stream: &mut U, feed: &mut F)
     requires ready { F.ready feed.old }
     requires lanes { length lanes.old ≡ vec_len works.old.lanes }
     ensures fed { F.fed feed.old feed.new }
-    ensures ran { AllRan T.ran lanes.old lanes.new works.old.lanes.items works.new.lanes.items }
-    ensures stream { MayRan U.ran stream.old stream.new works.old.stream works.new.stream }
-    ensures len { vec_len works.new.lanes ≡ vec_len works.old.lanes }
+    ensures served { HaveServed (F.noted feed.new) T.ran T.closed U.ran U.closed
+        lanes.old lanes.new stream.old stream.new works.old works.new }
 {
     let row = &works.row;
     let served = &mut works.lanes;
@@ -102,4 +112,7 @@ pub(crate) fn run_beside<
             × MayRan U.ran stream.entry.now stream.exit.now listener.entry.now listener.exit.now }
     { run_rest(rt, row, listener, stream, feed) };
     join_both(rt, &mut all, &mut rest);
+    let note = feed.note();
+    close_all(&note, &mut works.lanes, lanes);
+    close_more(&note, &mut works.stream, stream);
 }

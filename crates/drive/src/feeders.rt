@@ -2,12 +2,12 @@
 //! it is told so, and gives its feed up.
 ghost use Rattle.std.specs.Prelude.{◌≡◌, ◌+◌, ◌∷◌, ◌++◌, [], All, length, vec_len, vec_capacity};
 ghost use Rattle.std.specs.Thread.{IsSync, IsSend};
-ghost use Rattle.drive.specs.All.{AllRan, HaveRun, HaveServed, MayRan};
+ghost use Rattle.drive.specs.All.{AllRan, HaveRun, HaveServed};
 ghost use Rattle.drive.specs.Readers.{IsSameReaders};
 
-use crate::beside::{Feeds, Workers, run_beside};
+use crate::beside::{Feeds, Workers, serve_beside};
 use crate::fork::join_told;
-use crate::lane::Runs;
+use crate::lane::{Closes, Runs};
 use std::sync::Wait;
 use std::thread::Threads;
 
@@ -33,16 +33,16 @@ pub(crate) trait Sends<Q, F: Fresh> {
 
     /// Reads the feed, once all feeders may. One that is alone has no thread of its own: it gives the feed up, and then no
     /// other feed is read either.
-    fn send<R: Wait>(&mut self, rt: &R, desk: &Q, feeder: &mut F, alone: bool)
-        requires desk { ready desk.now }
+    fn send<R: Wait>(&mut self, rt: &R, context: &Q, feeder: &mut F, alone: bool)
+        requires context { ready context.now }
         requires feeder { F.fresh feeder.old }
-        ensures { sent desk.now self.old self.new feeder.old feeder.new };
+        ensures { sent context.now self.old self.new feeder.old feeder.new };
 }
 
 /// The feeders, and the feed that the first of them reads; and what all feeders share.
 #[derive(Drop)]
 pub(crate) struct Readers<'d, 'r, 's, 'v, Q, F, S> {
-    pub desk: &'d Q,
+    pub context: &'d Q,
     pub first: &'r mut F,
     pub feed: &'s mut S,
     pub feeders: &'v mut Vec<F>,
@@ -60,17 +60,17 @@ pub(crate) struct SeveralLoan<'d, 'r, 's, 'v, 'n, 'l, Q, F, S, T, G, L> {
 
 fn send_one<Q, F: Fresh, T: Sends<Q, F>, R: Wait>(
     rt: &R,
-    desk: &Q,
+    context: &Q,
     feeder: &mut F,
     feeds: &mut [T],
     alone: bool,
 )
     requires one { length feeds.old ≡ 1 }
-    requires desk { T.ready desk.now }
+    requires context { T.ready context.now }
     requires feeder { F.fresh feeder.old }
-    ensures { AllRan (T.sent desk.now) feeds.old feeds.new (feeder.old ∷ []) (feeder.new ∷ []) }
+    ensures { AllRan (T.sent context.now) feeds.old feeds.new (feeder.old ∷ []) (feeder.new ∷ []) }
 {
-    feeds[0].send(rt, desk, feeder, alone);
+    feeds[0].send(rt, context, feeder, alone);
 }
 
 /// Runs further feeders, and beside them what is to run in this thread.
@@ -81,14 +81,14 @@ fn run_more<
     T: Sends<Q, F> + Send,
     I: FnMut(),
     R: Threads + Wait + Sync,
->(rt: &R, desk: &Q, feeders: &mut Vec<F>, inner: &mut I, feeds: &mut [T])
+>(rt: &R, context: &Q, feeders: &mut Vec<F>, inner: &mut I, feeds: &mut [T])
     requires inner { I.pre inner.old }
-    requires desk { T.ready desk.now }
+    requires context { T.ready context.now }
     requires fresh { All F.fresh feeders.old.items }
     requires len { length feeds.old ≡ vec_len feeders.old }
     ensures inner { I.step inner.old tt inner.new }
     ensures sent { AllRan
-        (T.sent desk.now) feeds.old feeds.new feeders.old.items feeders.new.items }
+        (T.sent context.now) feeds.old feeds.new feeders.old.items feeders.new.items }
     ensures len { vec_len feeders.new ≡ vec_len feeders.old }
     ensures room { vec_capacity feeders.new ≡ vec_capacity feeders.old }
 {
@@ -96,7 +96,7 @@ fn run_more<
         inner();
         return;
     };
-    let feeder = run_last(rt, desk, feeders, feeder, inner, feeds);
+    let feeder = run_last(rt, context, feeders, feeder, inner, feeds);
     feeders.push_reserved(feeder);
 }
 
@@ -107,14 +107,14 @@ fn run_last<
     T: Sends<Q, F> + Send,
     I: FnMut(),
     R: Threads + Wait + Sync,
->(rt: &R, desk: &Q, feeders: &mut Vec<F>, feeder: F, inner: &mut I, feeds: &mut [T]) -> F
+>(rt: &R, context: &Q, feeders: &mut Vec<F>, feeder: F, inner: &mut I, feeds: &mut [T]) -> F
     requires inner { I.pre inner.old }
-    requires desk { T.ready desk.now }
+    requires context { T.ready context.now }
     requires fresh { All F.fresh feeders.old.items }
     requires feeder { F.fresh feeder }
     requires len { length feeds.old ≡ vec_len feeders.old + 1 }
     ensures inner { I.step inner.old tt inner.new }
-    ensures sent { AllRan (T.sent desk.now)
+    ensures sent { AllRan (T.sent context.now)
         feeds.old feeds.new (feeders.old.items ++ feeder ∷ []) (feeders.new.items ++ result ∷ []) }
     ensures len { vec_len feeders.new ≡ vec_len feeders.old }
     ensures room { vec_capacity feeders.new ≡ vec_capacity feeders.old }
@@ -124,18 +124,19 @@ fn run_last<
     let mut feeder = feeder;
     let mut one = |alone: bool|
         requires { IsSync R.row × IsSync Q.row × IsSend T.row × IsSend F.row × (length last.now ≡ 1)
-            × T.ready desk.now × F.fresh feeder }
-        ensures { AllRan (T.sent desk.entry.now) last.entry.now last.exit.now (feeder.entry ∷ [])
+            × T.ready context.now × F.fresh feeder }
+        ensures { AllRan (T.sent context.entry.now) last.entry.now last.exit.now (feeder.entry ∷ [])
             (feeder.exit ∷ []) }
-    { send_one(rt, desk, &mut feeder, last, alone) };
+    { send_one(rt, context, &mut feeder, last, alone) };
     let mut others = ||
         requires { IsSync R.row × IsSync Q.row × IsSend T.row × IsSend F.row
-            × (length rest.now ≡ vec_len feeders.now) × T.ready desk.now
+            × (length rest.now ≡ vec_len feeders.now) × T.ready context.now
             × All F.fresh feeders.now.items × I.pre inner.now }
         ensures { HaveRun
-            (T.sent desk.entry.now) rest.entry.now rest.exit.now feeders.entry.now feeders.exit.now
+            (T.sent context.entry.now)
+            rest.entry.now rest.exit.now feeders.entry.now feeders.exit.now
             × I.step inner.entry.now tt inner.exit.now }
-    { run_more(rt, desk, feeders, inner, rest) };
+    { run_more(rt, context, feeders, inner, rest) };
     join_told(rt, &mut one, &mut others);
     feeder
 }
@@ -150,49 +151,51 @@ fn run_feeders<
     R: Threads + Wait + Sync,
 >(rt: &R, readers: &mut Readers<'_, '_, '_, '_, Q, F, S>, more: &mut [T], inner: &mut I)
     requires inner { I.pre inner.old }
-    requires desk { S.ready readers.old.desk.now × T.ready readers.old.desk.now }
+    requires context { S.ready readers.old.context.now × T.ready readers.old.context.now }
     requires first { F.fresh readers.old.first.now }
     requires fresh { All F.fresh readers.old.feeders.now.items }
     requires len { length more.old ≡ vec_len readers.old.feeders.now }
     ensures same { IsSameReaders readers.old readers.new }
     ensures inner { I.step inner.old tt inner.new }
-    ensures first { S.sent readers.old.desk.now
+    ensures first { S.sent readers.old.context.now
         readers.old.feed.now readers.new.feed.now readers.old.first.now readers.new.first.now }
-    ensures sent { AllRan (T.sent readers.old.desk.now) more.old more.new
+    ensures sent { AllRan (T.sent readers.old.context.now) more.old more.new
         readers.old.feeders.now.items readers.new.feeders.now.items }
 {
-    let desk = readers.desk;
+    let context = readers.context;
     let first = &mut *readers.first;
     let feed = &mut *readers.feed;
     let feeders = &mut *readers.feeders;
     let mut one = |alone: bool|
-        requires { IsSync R.row × IsSync Q.row × IsSend S.row × IsSend F.row × S.ready desk.now
+        requires { IsSync R.row × IsSync Q.row × IsSend S.row × IsSend F.row × S.ready context.now
             × F.fresh first.now }
         ensures { S.sent
-            desk.entry.now feed.entry.now feed.exit.now first.entry.now first.exit.now }
-    { feed.send(rt, desk, first, alone) };
+            context.entry.now feed.entry.now feed.exit.now first.entry.now first.exit.now }
+    { feed.send(rt, context, first, alone) };
     let mut others = ||
         requires { IsSync R.row × IsSync Q.row × IsSend T.row × IsSend F.row
-            × (length more.now ≡ vec_len feeders.now) × T.ready desk.now
+            × (length more.now ≡ vec_len feeders.now) × T.ready context.now
             × All F.fresh feeders.now.items × I.pre inner.now }
         ensures { HaveRun
-            (T.sent desk.entry.now) more.entry.now more.exit.now feeders.entry.now feeders.exit.now
+            (T.sent context.entry.now)
+            more.entry.now more.exit.now feeders.entry.now feeders.exit.now
             × I.step inner.entry.now tt inner.exit.now }
-    { run_more(rt, desk, feeders, inner, more) };
+    { run_more(rt, context, feeders, inner, more) };
     join_told(rt, &mut one, &mut others);
 }
 
-/// Runs all feeders, and beside them the mapper's side, in this thread, and the lanes.
+/// Runs all feeders, and beside them the mapper's side, in this thread, and the lanes, of which each has its closing look.
 pub(crate) fn run_among<
     Q: Starts + Sync,
     F: Fresh + Drop + Send,
     S: Sends<Q, F> + Send,
     T: Sends<Q, F> + Send,
-    G: Feeds<W>,
-    L: Runs<W, H> + Send,
+    G: Feeds<W, Note = N>,
+    L: Runs<W, H> + Closes<N, H> + Send,
     W: Sync,
+    N: Drop,
     H: Drop + Send,
-    U: Runs<W, H> + Send,
+    U: Runs<W, H> + Closes<N, H> + Send,
     R: Threads + Wait + Sync,
 >(
     rt: &R,
@@ -200,7 +203,7 @@ pub(crate) fn run_among<
     works: &mut Workers<W, H>,
     stream: &mut U,
 )
-    requires desk { S.ready loan.old.readers.desk.now × T.ready loan.old.readers.desk.now }
+    requires context { S.ready loan.old.readers.context.now × T.ready loan.old.readers.context.now }
     requires first { F.fresh loan.old.readers.first.now }
     requires fresh { All F.fresh loan.old.readers.feeders.now.items }
     requires feeds { length loan.old.more.now ≡ vec_len loan.old.readers.feeders.now }
@@ -209,29 +212,28 @@ pub(crate) fn run_among<
     ensures same { IsSameReaders loan.old.readers loan.new.readers
         × (loan.new.more.ghost_name ≡ loan.old.more.ghost_name)
         × (loan.new.lanes.ghost_name ≡ loan.old.lanes.ghost_name) }
-    ensures first { S.sent loan.old.readers.desk.now
+    ensures first { S.sent loan.old.readers.context.now
         loan.old.readers.feed.now loan.new.readers.feed.now
         loan.old.readers.first.now loan.new.readers.first.now }
-    ensures sent { AllRan (T.sent loan.old.readers.desk.now) loan.old.more.now loan.new.more.now
+    ensures sent { AllRan (T.sent loan.old.readers.context.now) loan.old.more.now loan.new.more.now
         loan.old.readers.feeders.now.items loan.new.readers.feeders.now.items }
     ensures fed { G.fed loan.old.side loan.new.side }
-    ensures ran { AllRan L.ran loan.old.lanes.now loan.new.lanes.now
-        works.old.lanes.items works.new.lanes.items }
-    ensures stream { MayRan U.ran stream.old stream.new works.old.stream works.new.stream }
-    ensures len { vec_len works.new.lanes ≡ vec_len works.old.lanes }
+    ensures served { HaveServed (G.noted loan.new.side) L.ran L.closed U.ran U.closed
+        loan.old.lanes.now loan.new.lanes.now stream.old stream.new works.old works.new }
 {
-    let desk = loan.readers.desk;
+    let context = loan.readers.context;
     let side = &mut loan.side;
     let lanes = &mut *loan.lanes;
     let more = &mut *loan.more;
     let mut inner = ||
         requires { G.ready side.now × (length lanes.now ≡ vec_len works.now.lanes) }
         ensures { G.fed side.entry.now side.exit.now
-            × HaveServed L.ran U.ran lanes.entry.now lanes.exit.now
+            × HaveServed (G.noted side.exit.now) L.ran L.closed U.ran U.closed
+            lanes.entry.now lanes.exit.now
             stream.entry.now stream.exit.now works.entry.now works.exit.now }
     {
-        desk.start(rt);
-        run_beside(rt, works, lanes, stream, side);
+        context.start(rt);
+        serve_beside(rt, works, lanes, stream, side);
     };
     run_feeders(rt, &mut loan.readers, more, &mut inner);
 }

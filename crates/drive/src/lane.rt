@@ -132,7 +132,7 @@ pub(crate) trait Runs<W, H> {
         ensures { ran self.old self.new work.old work.new };
 }
 
-/// What is closed when all threads have ended.
+/// What is closed when the threads of all lanes have ended.
 pub(crate) trait Closes<N, H> {
     ghost closed: { N → Self → Self → H → H → Type 0 };
 
@@ -141,18 +141,9 @@ pub(crate) trait Closes<N, H> {
 }
 
 impl<J: Naming, P: Port, G: Gate, D: Door> Runs<NoteRow<J>, LaneWorker<J>> for Lane<P, G, D> {
-    ghost use Rattle.std.specs.Prelude.{◌≡◌, ◌≤◌, length};
-    ghost use Rattle.outside.specs.Limits.{most_notes};
-    ghost use Rattle.past_log.specs.Notes.{no_notes};
-    ghost use Rattle.map_cell.specs.Rows.{AreFirst};
-    ghost use Rattle.lane_model.specs.Calls.{IsLaneCall};
-    ghost use Rattle.lane_model.specs.Replies.{replies};
-    ghost use Rattle.drive.specs.Told.{moment_at};
+    ghost use Rattle.drive.specs.AllDone.{IsServed};
 
-    ghost ran = { λ a b v w. AreFirst b.notes × IsLaneCall replies v.worker.number v.turns
-        (moment_at a v.worker.viewer no_notes v.worker.count)
-        (moment_at b w.worker.viewer b.notes w.worker.count)
-        w.ended × (length b.notes.given ≤ most_notes) × (b.asked ≡ a.asked) };
+    ghost ran = { λ a b v w. IsServed a b v w };
 
     fn run(&mut self, row: &NoteRow<J>, work: &mut LaneWorker<J>) {
         let mut notes = RowNotes::over(row);
@@ -169,14 +160,9 @@ impl<J: Naming, P: Port, G: Gate, D: Door> Runs<NoteRow<J>, LaneWorker<J>> for L
 }
 
 impl<J: Naming, P: Port, G: Gate, D: Door> Closes<Note<J>, LaneWorker<J>> for Lane<P, G, D> {
-    ghost use Rattle.std.specs.Prelude.{◌≡◌};
-    ghost use Rattle.drive.specs.Closing.{IsClosing};
-    ghost use Rattle.drive.specs.Told.{eyes_at};
+    ghost use Rattle.drive.specs.AllDone.{IsClosed};
 
-    ghost closed = { λ note a b v w.
-        IsClosing note.front (eyes_at v.worker.viewer a) (eyes_at w.worker.viewer b) v.ended w.ended
-        × (b.port ≡ a.port) × (b.port_faults ≡ a.port_faults) × (b.gate ≡ a.gate)
-        × (b.asked ≡ a.asked) × (b.notes ≡ a.notes) × (b.gate_faults ≡ a.gate_faults) };
+    ghost closed = { λ note a b v w. IsClosed note.front a b v w };
 
     fn close(&mut self, note: &Note<J>, work: &mut LaneWorker<J>) {
         work.ended = close_lane(&mut work.worker, &mut self.door, note, work.ended);

@@ -1,7 +1,7 @@
-//! What the sides of a drive are lent: of one feed `FeedLoan`, with the lanes `Loan`; of several `TakerLoan`, and what their
-//! feeders share.
-ghost use Rattle.std.specs.Prelude.{◌≡◌};
-ghost use Rattle.map_cell.specs.Histories.{IsHistory};
+//! What the mapper's side of a drive is lent: of one feed `FeedLoan`, of several `TakerLoan`; and what their feeders share.
+ghost use Rattle.std.specs.Prelude.{◌≡◌, length};
+ghost use Rattle.mapper.specs.Notes.{AreTold};
+ghost use Rattle.drive.specs.Fed.{IsOfNewest};
 
 use crate::beside::Feeds;
 use crate::feeders::{Fresh, Sends, Starts};
@@ -14,119 +14,67 @@ use outside::{Pace, Sink, Source};
 use std::sync::{Arc, Wait};
 use topology_text::Topology;
 
-/// What the mapper's side is lent: the mapper, the feed, both outputs and the pace; and the number of turns, how the feed
-/// ended, and how many of the row's first cells held a note then.
+/// The note of a mapper's newest map.
+fn newest_note<J: Naming>(mapper: &Mapper<J>) -> Note<J>
+    ensures { IsOfNewest mapper.now result.front }
+{
+    let note = mapper.note();
+    // tells the prover what the type keeps
+    let _ = note.front.len();
+    note
+}
+
+/// The row's first cell gets the note of a mapper's first map, for all lanes. It answers how many cells hold a note then.
+pub(crate) fn tell_first<J: Naming, R: Wait>(rt: &R, row: &NoteRow<J>, mapper: &Mapper<J>) -> Told
+    ensures { length mapper.now.history ≡ 1 → AreTold mapper.now.history result }
+{
+    let mut told = Told::of_none();
+    told.tell(rt, row, mapper.note());
+    told
+}
+
+/// What the mapper's side is lent: the mapper, the feed, and to whom it tells; and the number of turns, and how the feed
+/// ended.
 #[derive(Drop)]
 pub(crate) struct FeedLoan<'x, 'f, 'o, 'm, 'p, J: Naming, S, K, M> {
     pub mapper: &'x mut Mapper<J>,
     pub feed: &'f mut S,
-    pub out: &'o mut K,
-    pub maps: &'m mut K,
-    pub pace: &'p mut M,
+    pub to: Outputs<'o, 'm, 'p, K, M>,
     pub turns: u64,
     pub end: FeedEnd,
-    pub told: Told,
-}
-
-/// What both sides are lent: the mapper's, and the lanes that have workers.
-#[derive(Drop)]
-pub(crate) struct Loan<'x, 'f, 'o, 'm, 'p, 'l, J: Naming, S, K, M, L> {
-    pub side: FeedLoan<'x, 'f, 'o, 'm, 'p, J, S, K, M>,
-    pub lanes: &'l mut [L],
-}
-
-/// How many of the row's first cells hold a note, by what a run was lent.
-fn told_by<K, M>(to: &Outputs<'_, '_, '_, K, M>) -> Told
-    ensures { result ≡ to.now.told }
-{
-    to.told
 }
 
 impl<J: Naming, S, K, M> FeedLoan<'_, '_, '_, '_, '_, J, S, K, M> {
     /// How many of the row's first cells hold a note.
     pub fn told(&self) -> Told
-        ensures { result ≡ self.now.told }
+        ensures { result ≡ self.now.to.told }
     {
-        self.told
-    }
-
-    /// The note of the newest map.
-    pub fn note(&self) -> Note<J>
-        ensures note { result.front ≡ self.now.mapper.now.history }
-        ensures history { IsHistory self.now.mapper.now.history }
-    {
-        let note = self.mapper.note();
-        // tells the prover what the type keeps
-        let _ = note.front.len();
-        note
+        self.to.told
     }
 }
 
 impl<J: Naming, S: Source, K: Sink, M: Pace> Feeds<NoteRow<J>>
     for FeedLoan<'_, '_, '_, '_, '_, J, S, K, M> {
+    type Note = Note<J>;
+
     ghost use Rattle.std.specs.Prelude.{◌<◌, ◌≤◌, ◌^◌};
     ghost use Rattle.demand_feed.specs.declared.limits.TheConstants.{MOST_TURNS};
-    ghost use Rattle.drive.specs.Fed.{IsFedBy};
+    ghost use Rattle.drive.specs.Fed.{IsFedBy, IsOfNewest};
 
     ghost ready = { λ l. (l.turns ≤ MOST_TURNS) × (l.mapper.now.newest.serial < 2 ^ 63) };
 
     ghost fed = { λ a b. IsFedBy S.told K.told M.told a b };
 
+    ghost noted = { λ l note. IsOfNewest l.mapper.now note.front };
+
     fn run_feed<R: Wait>(&mut self, rt: &R, row: &NoteRow<J>) {
-        let mut told = Told::of_none();
-        told.tell(rt, row, self.note());
-        let mut to = Outputs {
-            out: self.out,
-            maps: self.maps,
-            pace: self.pace,
-            told,
-        };
         self.end = self
             .mapper
-            .run_feed(rt, self.feed, &mut to, row, self.turns);
-        self.told = told_by(&to);
+            .run_feed(rt, self.feed, &mut self.to, row, self.turns);
     }
-}
 
-/// What all feeders share: the topology, for how many turns each reads its feed, and where they wait for one another.
-#[derive(Drop)]
-pub(crate) struct Desk {
-    pub topology: Arc<Topology>,
-    pub turns: u64,
-    pub start: StartSignal,
-}
-
-impl Starts for Desk {
-    fn start<R: Wait>(&self, rt: &R) {
-        self.start.open(rt);
-    }
-}
-
-impl<N: Numbers> Fresh for Feeder<N> {
-    ghost use Rattle.std.specs.Prelude.{◌≡◌, []};
-
-    ghost fresh = { λ f. f.sent ≡ [] };
-}
-
-impl<N: Numbers, S: Source> Sends<Desk, Feeder<N>> for S {
-    ghost use Rattle.std.specs.Prelude.{◌≡◌, ◌≤◌, length};
-    ghost use Rattle.std.specs.Arc.{arc_value};
-    ghost use Rattle.demand_feed.specs.declared.limits.TheConstants.{MOST_TURNS};
-    ghost use Rattle.drive.specs.Read.{IsRead};
-
-    ghost ready = { λ desk. (desk.turns ≤ MOST_TURNS)
-        × (length (arc_value desk.topology).market.groups ≡ N.groups)
-        × (length (arc_value desk.topology).market.nodes ≡ N.nodes) };
-
-    ghost sent = { λ desk a b f g.
-        IsRead (arc_value desk.topology) desk.turns (S.told a) (S.told b) f g };
-
-    fn send<R: Wait>(&mut self, rt: &R, desk: &Desk, feeder: &mut Feeder<N>, alone: bool) {
-        if desk.start.may_read(rt, alone) {
-            feeder.run(rt, &desk.topology, self, desk.turns);
-        } else {
-            feeder.give_up(rt);
-        }
+    fn note(&self) -> Note<J> {
+        newest_note(self.mapper)
     }
 }
 
@@ -142,23 +90,12 @@ pub(crate) struct TakerLoan<'x, 't, 'o, 'm, 'p, J: Naming, N: Numbers, K, M> {
     pub end: FeedEnd,
 }
 
-impl<J: Naming, N: Numbers, K, M> TakerLoan<'_, '_, '_, '_, '_, J, N, K, M> {
-    /// The note of the newest map.
-    pub fn note(&self) -> Note<J>
-        ensures note { result.front ≡ self.now.mapper.now.history }
-        ensures history { IsHistory self.now.mapper.now.history }
-    {
-        let note = self.mapper.note();
-        // tells the prover what the type keeps
-        let _ = note.front.len();
-        note
-    }
-}
-
 impl<J: Naming, N: Numbers, K: Sink, M: Pace> Feeds<NoteRow<J>>
     for TakerLoan<'_, '_, '_, '_, '_, J, N, K, M> {
+    type Note = Note<J>;
+
     ghost use Rattle.std.specs.Prelude.{◌≡◌, ◌<◌, ◌^◌, [], length};
-    ghost use Rattle.drive.specs.Fed.{AreWorked};
+    ghost use Rattle.drive.specs.Fed.{AreWorked, IsOfNewest};
 
     ghost ready = { λ l. (length l.mapper.now.newest.plan.market.groups ≡ N.groups)
         × (length l.mapper.now.newest.plan.market.nodes ≡ N.nodes)
@@ -166,15 +103,67 @@ impl<J: Naming, N: Numbers, K: Sink, M: Pace> Feeds<NoteRow<J>>
 
     ghost fed = { λ a b. AreWorked K.told M.told a b };
 
+    ghost noted = { λ l note. IsOfNewest l.mapper.now note.front };
+
     fn run_feed<R: Wait>(&mut self, rt: &R, row: &NoteRow<J>) {
-        let mut told = Told::of_none();
-        told.tell(rt, row, self.note());
         let mut to = Outputs {
             out: self.out,
             maps: self.maps,
             pace: self.pace,
-            told,
+            told: Told::of_none(),
         };
         self.end = self.mapper.run_feeds(rt, self.taker, &mut to, row);
+    }
+
+    fn note(&self) -> Note<J> {
+        newest_note(self.mapper)
+    }
+}
+
+/// What all feeders share: the topology, for how many turns each reads its feed, and where they wait for one another.
+#[derive(Drop)]
+pub(crate) struct FeederContext {
+    pub topology: Arc<Topology>,
+    pub turns: u64,
+    pub start: StartSignal,
+}
+
+impl Starts for FeederContext {
+    fn start<R: Wait>(&self, rt: &R) {
+        self.start.open(rt);
+    }
+}
+
+impl<N: Numbers> Fresh for Feeder<N> {
+    ghost use Rattle.std.specs.Prelude.{◌≡◌, []};
+
+    ghost fresh = { λ f. f.sent ≡ [] };
+}
+
+impl<N: Numbers, S: Source> Sends<FeederContext, Feeder<N>> for S {
+    ghost use Rattle.std.specs.Prelude.{◌≡◌, ◌≤◌, length};
+    ghost use Rattle.std.specs.Arc.{arc_value};
+    ghost use Rattle.demand_feed.specs.declared.limits.TheConstants.{MOST_TURNS};
+    ghost use Rattle.drive.specs.Read.{IsRead};
+
+    ghost ready = { λ context. (context.turns ≤ MOST_TURNS)
+        × (length (arc_value context.topology).market.groups ≡ N.groups)
+        × (length (arc_value context.topology).market.nodes ≡ N.nodes) };
+
+    ghost sent = { λ context a b f g.
+        IsRead (arc_value context.topology) context.turns (S.told a) (S.told b) f g };
+
+    fn send<R: Wait>(
+        &mut self,
+        rt: &R,
+        context: &FeederContext,
+        feeder: &mut Feeder<N>,
+        alone: bool,
+    ) {
+        if context.start.may_read(rt, alone) {
+            feeder.run(rt, &context.topology, self, context.turns);
+        } else {
+            feeder.give_up(rt);
+        }
     }
 }

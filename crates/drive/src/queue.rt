@@ -5,7 +5,7 @@ ghost use mathlib.Core.List.{IsPrefix};
 ghost use Rattle.feed_queue.specs.Items.{AreTaken, sent_by};
 ghost use Rattle.drive.specs.Queue.{IsFeedQueue};
 
-use crate::loan::Desk;
+use crate::loan::FeederContext;
 use crate::start_signal::StartSignal;
 use feed_queue::{Feeder, Numbers, Taker, open};
 use no_memory::NoMemory;
@@ -16,7 +16,7 @@ use topology_text::Topology;
 /// The feeders of a queue, the one of the first feed by itself, who takes from it, and what the feeders share.
 #[derive(Drop)]
 pub(crate) struct FeedQueue<N: Numbers> {
-    pub desk: Desk,
+    pub context: FeederContext,
     pub first: Feeder<N>,
     pub feeders: Vec<Feeder<N>>,
     pub taker: Taker<N>,
@@ -34,14 +34,14 @@ pub(crate) fn open_queue<N: Numbers>(
     requires nodes { length (arc_value topology.now).market.nodes ≡ N.nodes }
     ensures queue { IfOk result
         (λ r. IsFeedQueue N.groups N.nodes count (arc_value topology.now) r) }
-    ensures turns { IfOk result (λ r. r.desk.turns ≡ turns) }
+    ensures turns { IfOk result (λ r. r.context.turns ≡ turns) }
 {
     let topology = Arc::try_clone(topology)?;
     let (made, taker) = open::<N>(alloc, 1 + count)?;
     let mut feeders = made;
     let first = feeders.remove(0);
     Ok(FeedQueue {
-        desk: Desk {
+        context: FeederContext {
             topology,
             turns,
             start: StartSignal::new(),

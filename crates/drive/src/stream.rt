@@ -66,18 +66,9 @@ impl<Q: Streams, G: Gate, D: Door> StreamLane<Q, G, D> {
 
 impl<J: Naming, Q: Streams, G: Gate, D: Door> Runs<NoteRow<J>, LaneWorker<J>>
     for StreamLane<Q, G, D> {
-    ghost use Rattle.std.specs.Prelude.{◌≡◌, ◌≤◌, length};
-    ghost use Rattle.outside.specs.Limits.{most_notes};
-    ghost use Rattle.past_log.specs.Notes.{no_notes};
-    ghost use Rattle.map_cell.specs.Rows.{AreFirst};
-    ghost use Rattle.tcp_lane.specs.Calls.{IsStreamCall};
-    ghost use Rattle.tcp_lane.specs.Replies.{stream_replies};
-    ghost use Rattle.drive.specs.Told.{stream_moment_at};
+    ghost use Rattle.drive.specs.AllDone.{IsStreamServed};
 
-    ghost ran = { λ a b v w. AreFirst b.notes × IsStreamCall stream_replies v.worker.number v.turns
-        (stream_moment_at a v.worker.viewer no_notes v.worker.count)
-        (stream_moment_at b w.worker.viewer b.notes w.worker.count)
-        w.ended × (length b.notes.given ≤ most_notes) × (b.asked ≡ a.asked) };
+    ghost ran = { λ a b v w. IsStreamServed a b v w };
 
     fn run(&mut self, row: &NoteRow<J>, work: &mut LaneWorker<J>) {
         let mut notes = RowNotes::over(row);
@@ -95,14 +86,9 @@ impl<J: Naming, Q: Streams, G: Gate, D: Door> Runs<NoteRow<J>, LaneWorker<J>>
 
 impl<J: Naming, Q: Streams, G: Gate, D: Door> Closes<Note<J>, LaneWorker<J>>
     for StreamLane<Q, G, D> {
-    ghost use Rattle.std.specs.Prelude.{◌≡◌};
-    ghost use Rattle.drive.specs.Closing.{IsClosing};
-    ghost use Rattle.drive.specs.Told.{eyes_at};
+    ghost use Rattle.drive.specs.AllDone.{IsClosed};
 
-    ghost closed = { λ note a b v w.
-        IsClosing note.front (eyes_at v.worker.viewer a) (eyes_at w.worker.viewer b) v.ended w.ended
-        × (b.port ≡ a.port) × (b.port_faults ≡ a.port_faults) × (b.gate ≡ a.gate)
-        × (b.asked ≡ a.asked) × (b.notes ≡ a.notes) × (b.gate_faults ≡ a.gate_faults) };
+    ghost closed = { λ note a b v w. IsClosed note.front a b v w };
 
     fn close(&mut self, note: &Note<J>, work: &mut LaneWorker<J>) {
         work.ended = close_lane(&mut work.worker, &mut self.door, note, work.ended);

@@ -1,36 +1,28 @@
 //! A drive: what it takes ahead of the first lane, its run, and its ends.
 ghost use Rattle.std.specs.Prelude.{◌≡◌, ◌≢◌, ◌+◌, ◌≤◌, ◌∷◌, [], List, All, IfOk, IfSome, IsSome, OnErr, drop, length, map, option_map, vec_len};
-ghost use Rattle.std.specs.Arc.{arc_value};
 ghost use Rattle.std.specs.Option.{option_to_list};
 ghost use Rattle.demand_feed.specs.declared.limits.TheConstants.{MOST_TURNS};
 ghost use Rattle.published_map.specs.Version.{Version};
-ghost use Rattle.map_cell.specs.Histories.{IsHistory};
 ghost use Rattle.lane_model.specs.declared.ended.Ended.{Ended};
 ghost use Rattle.mapper.specs.Notes.{AreTold};
-ghost use Rattle.drive.specs.AllDone.{AllHeld, AreServed, IsAtFirst, IsFresh};
+ghost use Rattle.drive.specs.AllDone.{AllHeld, IsFresh};
 ghost use Rattle.drive.specs.Counted.{AreCounted};
-ghost use Rattle.drive.specs.All.{AllRan};
 ghost use Rattle.drive.specs.Driven.{AreEnds, IsDriven};
-ghost use Rattle.drive.specs.Fed.{AreWorked, IsFedBy};
-ghost use Rattle.drive.specs.Queue.{IsFeedQueue};
-ghost use Rattle.drive.specs.Read.{IsRead};
-ghost use Rattle.drive.specs.Readers.{IsSameReaders};
 ghost use Rattle.drive.specs.Told.{AreUntouched, IsSameLent, lent_of};
 
-use crate::beside::{Workers, run_beside};
+use crate::beside::{Workers, serve_beside};
 use crate::feeders::{Readers, SeveralLoan, run_among};
-use crate::joins::{close_all, close_more};
 use crate::lane::{Lane, LaneWorker};
 use crate::lent::Lent;
-use crate::loan::{Desk, FeedLoan, Loan, TakerLoan};
+use crate::loan::{FeedLoan, TakerLoan, tell_first};
 use crate::queue::{FeedQueue, all_back, open_queue};
 use crate::stream::StreamLane;
 use crate::threads::can_fork;
 use demand_feed::FeedEnd;
-use feed_queue::{Feeder, Numbers};
+use feed_queue::Numbers;
 use lane_model::Ended;
-use map_cell::{Door, MOST_VIEWERS, Naming, Note, NoteRow, Viewer};
-use mapper::{Mapper, Told};
+use map_cell::{Door, MOST_VIEWERS, Naming, NoteRow, Viewer};
+use mapper::{Mapper, Outputs, Told};
 use name_workers::Worker;
 use no_memory::NoMemory;
 use outside::{Gate, Pace, Port, Sink, Source, Streams};
@@ -151,133 +143,6 @@ fn prepare<J: Naming, R: Threads>(
     Ok(Workers { row, lanes, stream })
 }
 
-/// Hands on the first map's note, which the row keeps for all lanes.
-fn hand_on<J: Naming, R: Wait>(rt: &R, row: &NoteRow<J>, note: Note<J>) {
-    let _ = row.put_at(rt, 0, note);
-}
-
-/// Hands on the first map's note, runs the feed beside the lanes, and then makes the closing look of each. What is lent
-/// stays lent. It answers how many of the row's first cells hold a note then.
-fn serve_all<
-    J: Naming + Send + Sync,
-    S: Source,
-    K: Sink,
-    P: Port + Send,
-    Q: Streams + Send,
-    G: Gate + Send,
-    D: Door + Send,
-    M: Pace,
-    R: Threads + Wait + Sync,
->(
-    rt: &R,
-    works: &mut Workers<NoteRow<J>, LaneWorker<J>>,
-    loan: &mut Loan<'_, '_, '_, '_, '_, '_, J, S, K, M, Lane<P, G, D>>,
-    stream: &mut StreamLane<Q, G, D>,
-) -> Told
-    requires turns { loan.old.side.turns ≤ MOST_TURNS }
-    requires first { IsAtFirst loan.old.side.mapper.now }
-    requires fresh { AllHeld (IsFresh loan.old.side.mapper.now.history loan.old.side.turns)
-        0 works.old.lanes.items }
-    requires lanes { length loan.old.lanes.now ≡ vec_len works.old.lanes }
-    requires listener { IfSome works.old.stream
-        (IsFresh loan.old.side.mapper.now.history loan.old.side.turns (vec_len works.old.lanes)) }
-    ensures fed { IsFedBy S.told K.told M.told loan.old.side loan.new.side }
-    ensures lanes { loan.new.lanes.ghost_name ≡ loan.old.lanes.ghost_name }
-    ensures history { IsHistory loan.new.side.mapper.now.history }
-    ensures len { vec_len works.new.lanes ≡ vec_len works.old.lanes }
-    ensures done { (rest : List Version)
-        × (loan.new.side.mapper.now.history ≡ loan.old.side.mapper.now.newest ∷ rest)
-        × AreServed loan.old.side.turns loan.old.side.mapper.now.newest rest
-        loan.old.lanes.now loan.new.lanes.now stream.old stream.new works.new }
-    ensures same { length (option_to_list works.new.stream) ≡ length
-        (option_to_list works.old.stream) }
-    ensures told { result ≡ loan.new.side.told }
-{
-    hand_on(rt, &works.row, loan.side.note());
-    run_beside(rt, works, loan.lanes, stream, &mut loan.side);
-    let note = loan.side.note();
-    close_all(&note, &mut works.lanes, loan.lanes);
-    close_more(&note, &mut works.stream, stream);
-    loan.side.told()
-}
-
-/// Hands on the first map's note, runs the feeders and the mapper's side beside the lanes, and then makes the closing look
-/// of each. What is lent stays lent.
-fn serve_several<
-    J: Naming + Send + Sync,
-    N: Numbers + Send + Sync,
-    S: Source + Send,
-    T: Source + Send,
-    K: Sink,
-    P: Port + Send,
-    Q: Streams + Send,
-    G: Gate + Send,
-    D: Door + Send,
-    M: Pace,
-    R: Threads + Wait + Sync,
->(
-    rt: &R,
-    works: &mut Workers<NoteRow<J>, LaneWorker<J>>,
-    loan: &mut SeveralLoan<
-        '_,
-        '_,
-        '_,
-        '_,
-        '_,
-        '_,
-        Desk,
-        Feeder<N>,
-        S,
-        T,
-        TakerLoan<'_, '_, '_, '_, '_, J, N, K, M>,
-        Lane<P, G, D>,
-    >,
-    stream: &mut StreamLane<Q, G, D>,
-)
-    requires turns { loan.old.readers.desk.now.turns ≤ MOST_TURNS }
-    requires groups { (length (arc_value loan.old.readers.desk.now.topology).market.groups
-        ≡ N.groups)
-        × (length loan.old.side.mapper.now.newest.plan.market.groups ≡ N.groups) }
-    requires nodes { (length (arc_value loan.old.readers.desk.now.topology).market.nodes ≡ N.nodes)
-        × (length loan.old.side.mapper.now.newest.plan.market.nodes ≡ N.nodes) }
-    requires unused { (loan.old.readers.first.now.sent ≡ [])
-        × All (λ f. f.sent ≡ []) loan.old.readers.feeders.now.items
-        × (loan.old.side.taker.now.taken ≡ []) }
-    requires feeds { length loan.old.more.now ≡ vec_len loan.old.readers.feeders.now }
-    requires first { IsAtFirst loan.old.side.mapper.now }
-    requires fresh { AllHeld
-        (IsFresh loan.old.side.mapper.now.history loan.old.readers.desk.now.turns)
-        0 works.old.lanes.items }
-    requires lanes { length loan.old.lanes.now ≡ vec_len works.old.lanes }
-    requires listener { IfSome works.old.stream (IsFresh loan.old.side.mapper.now.history
-        loan.old.readers.desk.now.turns (vec_len works.old.lanes)) }
-    ensures readers { IsSameReaders loan.old.readers loan.new.readers }
-    ensures first { IsRead (arc_value loan.old.readers.desk.now.topology)
-        loan.old.readers.desk.now.turns (S.told loan.old.readers.feed.now)
-        (S.told loan.new.readers.feed.now) loan.old.readers.first.now loan.new.readers.first.now }
-    ensures sent { AllRan (λ a b f g. IsRead (arc_value loan.old.readers.desk.now.topology)
-        loan.old.readers.desk.now.turns (T.told a) (T.told b) f g)
-        loan.old.more.now loan.new.more.now
-        loan.old.readers.feeders.now.items loan.new.readers.feeders.now.items }
-    ensures worked { AreWorked K.told M.told loan.old.side loan.new.side }
-    ensures names { (loan.new.more.ghost_name ≡ loan.old.more.ghost_name)
-        × (loan.new.lanes.ghost_name ≡ loan.old.lanes.ghost_name) }
-    ensures history { IsHistory loan.new.side.mapper.now.history }
-    ensures len { vec_len works.new.lanes ≡ vec_len works.old.lanes }
-    ensures done { (rest : List Version)
-        × (loan.new.side.mapper.now.history ≡ loan.old.side.mapper.now.newest ∷ rest)
-        × AreServed loan.old.readers.desk.now.turns loan.old.side.mapper.now.newest rest
-        loan.old.lanes.now loan.new.lanes.now stream.old stream.new works.new }
-    ensures same { length (option_to_list works.new.stream) ≡ length
-        (option_to_list works.old.stream) }
-{
-    hand_on(rt, &works.row, loan.side.note());
-    run_among(rt, loan, works, stream);
-    let newest = loan.side.note();
-    close_all(&newest, &mut works.lanes, loan.lanes);
-    close_more(&newest, &mut works.stream, stream);
-}
-
 /// Drives one feed, as `drive`.
 fn drive_one<
     J: Naming + Send + Sync,
@@ -326,25 +191,25 @@ fn drive_one<
     // tells the prover what the type keeps
     let _ = mapper.newest();
     let mut works = works;
+    let told = tell_first(rt, &works.row, &mapper);
     let count = works.lanes.len();
-    let of_none = Told::of_none();
     let lanes = &mut *lent.lanes;
     let (served, _behind) = lanes.split_at_mut(count);
-    let mut loan = Loan {
-        side: FeedLoan {
-            mapper: &mut mapper,
-            feed: lent.feed,
+    let mut loan = FeedLoan {
+        mapper: &mut mapper,
+        feed: lent.feed,
+        to: Outputs {
             out: lent.out,
             maps: lent.maps,
             pace: lent.pace,
-            turns: lent.turns,
-            end: FeedEnd::Ended,
-            told: of_none,
+            told,
         },
-        lanes: served,
+        turns: lent.turns,
+        end: FeedEnd::Ended,
     };
-    let told = serve_all(rt, &mut works, &mut loan, stream);
-    let end = loan.side.end;
+    serve_beside(rt, &mut works, served, stream, &mut loan);
+    let end = loan.end;
+    let told = loan.told();
     mapper.close(rt);
     DriveEnd {
         feed: end,
@@ -354,102 +219,8 @@ fn drive_one<
     }
 }
 
-/// Drives several feeds, as `drive`.
+/// Drives several feeds, as `drive`, by a queue.
 fn drive_several<
-    J: Naming + Send + Sync,
-    N: Numbers + Send + Sync,
-    S: Source + Send,
-    T: Source + Send,
-    K: Sink,
-    P: Port + Send,
-    Q: Streams + Send,
-    G: Gate + Send,
-    D: Door + Send,
-    M: Pace,
-    R: Threads + Wait + Sync,
->(
-    rt: &R,
-    queue: FeedQueue<N>,
-    mapper: Mapper<J>,
-    works: Workers<NoteRow<J>, LaneWorker<J>>,
-    lent: &mut Lent<'_, '_, '_, '_, '_, '_, S, T, K, P, G, D, M>,
-    stream: &mut StreamLane<Q, G, D>,
-) -> DriveEnd
-    requires serial { mapper.newest.serial ≡ 0 }
-    requires queue { IsFeedQueue
-        N.groups N.nodes (length lent.old.more.now) mapper.newest.plan queue }
-    requires turns { (lent.old.turns ≤ MOST_TURNS) × (queue.desk.turns ≡ lent.old.turns) }
-    requires fresh { AllHeld (IsFresh mapper.history lent.old.turns) 0 works.lanes.items }
-    requires listener { IfSome works.stream
-        (IsFresh mapper.history lent.old.turns (vec_len works.lanes)) }
-    requires few { (vec_len works.lanes ≤ 16)
-        × (vec_len works.lanes ≤ length lent.old.lanes.now) }
-    requires several { lent.old.more.now ≢ [] }
-    ensures keeps { IsSameLent lent.old lent.new }
-    ensures driven { (ends : List Ended) × (length ends ≡ vec_len works.lanes)
-        × AreEnds ends result.lanes
-        × (d : IsDriven lent.old.turns mapper.newest result.feed ends result.stream
-        (lent_of S.told T.told K.told M.told lent.old stream.old)
-        (lent_of S.told T.told K.told M.told lent.new stream.new))
-        × (result.feed ≢ FeedEnd.SinkFault
-        → IfSome result.told (AreTold (mapper.newest ∷ d.rest))) }
-    ensures untouched { drop (vec_len works.lanes) lent.new.lanes.now ≡ drop
-        (vec_len works.lanes) lent.old.lanes.now }
-    ensures stream { length (option_to_list result.stream) ≡ length
-        (option_to_list works.stream) }
-    ensures counted { AreCounted result.feed
-        (lent_of S.told T.told K.told M.told lent.old stream.old)
-        (lent_of S.told T.told K.told M.told lent.new stream.new) }
-{
-    let mut mapper = mapper;
-    // tells the prover what the type keeps
-    let _ = mapper.newest();
-    let mut works = works;
-    let FeedQueue {
-        desk,
-        first,
-        feeders,
-        taker,
-    } = queue;
-    let mut first = first;
-    let mut feeders = feeders;
-    let mut taker = taker;
-    let count = works.lanes.len();
-    let lanes = &mut *lent.lanes;
-    let (served, _behind) = lanes.split_at_mut(count);
-    let more = &mut *lent.more;
-    let mut loan = SeveralLoan {
-        readers: Readers {
-            desk: &desk,
-            first: &mut first,
-            feed: lent.feed,
-            feeders: &mut feeders,
-        },
-        more,
-        side: TakerLoan {
-            mapper: &mut mapper,
-            taker: &mut taker,
-            out: lent.out,
-            maps: lent.maps,
-            pace: lent.pace,
-            end: FeedEnd::Ended,
-        },
-        lanes: served,
-    };
-    serve_several(rt, &mut works, &mut loan, stream);
-    let ended = loan.side.end;
-    all_back(&mut taker, first, feeders);
-    mapper.close(rt);
-    DriveEnd {
-        feed: ended,
-        lanes: ends_of(&works.lanes),
-        stream: end_of(&works.stream),
-        told: None,
-    }
-}
-
-/// Opens a queue, and drives several feeds, as `drive`.
-fn drive_with<
     J: Naming + Send + Sync,
     N: Numbers + Send + Sync,
     S: Source + Send,
@@ -495,12 +266,54 @@ fn drive_with<
         (lent_of S.told T.told K.told M.told lent.old stream.old)
         (lent_of S.told T.told K.told M.told lent.new stream.new)) }
 {
-    let count = lent.more.len() as u8;
-    let Ok(queue) = open_queue::<N>(alloc, mapper.topology(), count, lent.turns) else {
+    let feeds = lent.more.len() as u8;
+    let Ok(queue) = open_queue::<N>(alloc, mapper.topology(), feeds, lent.turns) else {
         mapper.close(rt);
         return Err(NoMemory);
     };
-    Ok(drive_several(rt, queue, mapper, works, lent, stream))
+    let FeedQueue {
+        context,
+        mut first,
+        mut feeders,
+        mut taker,
+    } = queue;
+    let mut mapper = mapper;
+    // tells the prover what the type keeps
+    let _ = mapper.newest();
+    let mut works = works;
+    let _ = tell_first(rt, &works.row, &mapper);
+    let count = works.lanes.len();
+    let lanes = &mut *lent.lanes;
+    let (served, _behind) = lanes.split_at_mut(count);
+    let more = &mut *lent.more;
+    let mut loan = SeveralLoan {
+        readers: Readers {
+            context: &context,
+            first: &mut first,
+            feed: lent.feed,
+            feeders: &mut feeders,
+        },
+        more,
+        side: TakerLoan {
+            mapper: &mut mapper,
+            taker: &mut taker,
+            out: lent.out,
+            maps: lent.maps,
+            pace: lent.pace,
+            end: FeedEnd::Ended,
+        },
+        lanes: served,
+    };
+    run_among(rt, &mut loan, &mut works, stream);
+    let ended = loan.side.end;
+    all_back(&mut taker, first, feeders);
+    mapper.close(rt);
+    Ok(DriveEnd {
+        feed: ended,
+        lanes: ends_of(&works.lanes),
+        stream: end_of(&works.stream),
+        told: None,
+    })
 }
 
 /// Who works in a drive: the mapper, a viewer of its maps for each of the first lanes, and one for the lane for conversations,
@@ -598,5 +411,5 @@ pub fn drive<
     if count == 0 {
         return Ok(drive_one::<J, S, T, K, P, Q, G, D, M, R>(rt, mapper, works, lent, stream));
     }
-    drive_with::<J, Brand, S, T, K, P, Q, G, D, M, R>(rt, alloc, mapper, works, lent, stream)
+    drive_several::<J, Brand, S, T, K, P, Q, G, D, M, R>(rt, alloc, mapper, works, lent, stream)
 }

@@ -10,7 +10,7 @@ run_more-returns-clause-sent g t c =
 
 pub run_last-returns-clause-sent : goal.run_last-returns-clause-sent
 run_last-returns-clause-sent g t c =
-    let others : AllRan (g.T.Sends.sent c.args.desk.now) c.split_at_mut-rest.result.0.now c.rest-1.given.0 c.args.feeders.now.items c.feeders-1.given.0.items = search rules in
-    let one : AllRan (g.T.Sends.sent c.args.desk.now) c.split_at_mut-rest.result.1.now c.last-1.given.0 (c.args.feeder ∷ []) (c.feeder-2-1.given.0 ∷ []) = search rules in
+    let others : AllRan (g.T.Sends.sent c.args.context.now) c.split_at_mut-rest.result.0.now c.rest-1.given.0 c.args.feeders.now.items c.feeders-1.given.0.items = search rules in
+    let one : AllRan (g.T.Sends.sent c.args.context.now) c.split_at_mut-rest.result.1.now c.last-1.given.0 (c.args.feeder ∷ []) (c.feeder-2-1.given.0 ∷ []) = search rules in
     rw (c.split_at_mut-rest.ensures.value)
-    (ran_append (g.T.Sends.sent c.args.desk.now) _ _ _ _ _ _ _ _ others one)
+    (ran_append (g.T.Sends.sent c.args.context.now) _ _ _ _ _ _ _ _ others one)

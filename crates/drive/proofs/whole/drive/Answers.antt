@@ -14,14 +14,14 @@ drive_one-requires-clause-listener g c κs within = numbered_as (IsFresh c.args.
 pub drive_one-requires-clause-one : goal.drive_one-requires-clause-one
 drive_one-requires-clause-one g c κs within = no_more c.args.lent.now.more.now (search rules)
 
-pub drive_with-requires-clause-fresh : goal.drive_with-requires-clause-fresh
-drive_with-requires-clause-fresh g c κs within = c.in-Ok.ensures.held c.args.crew.mapper.history c.requires.viewers
+pub drive_several-requires-clause-fresh : goal.drive_several-requires-clause-fresh
+drive_several-requires-clause-fresh g c κs within = c.in-Ok.ensures.held c.args.crew.mapper.history c.requires.viewers
 
-pub drive_with-requires-clause-listener : goal.drive_with-requires-clause-listener
-drive_with-requires-clause-listener g c κs within = numbered_as (IsFresh c.args.crew.mapper.history c.args.lent.now.turns) _ _ _ (sym c.in-Ok.ensures.len) (c.in-Ok.ensures.listener c.args.crew.mapper.history c.requires.listener)
+pub drive_several-requires-clause-listener : goal.drive_several-requires-clause-listener
+drive_several-requires-clause-listener g c κs within = numbered_as (IsFresh c.args.crew.mapper.history c.args.lent.now.turns) _ _ _ (sym c.in-Ok.ensures.len) (c.in-Ok.ensures.listener c.args.crew.mapper.history c.requires.listener)
 
 pub returns-then-count-eq0-2-clause-driven : goal.returns-then-count-eq0-2-clause-driven
 returns-then-count-eq0-2-clause-driven g c = let d = c.drive_one.ensures.driven in (d.0, d.1 ∙ c.in-Ok.ensures.len, d.2, d.3, d.4)
 
 pub returns-clause-driven : goal.returns-clause-driven
-returns-clause-driven g c = ok_weaker _ _ c.drive_with.result (λ r d. (d.0, d.1 ∙ c.in-Ok.ensures.len, d.2, d.3, d.4)) c.drive_with.ensures.driven
+returns-clause-driven g c = ok_weaker _ _ c.drive_several.result (λ r d. (d.0, d.1 ∙ c.in-Ok.ensures.len, d.2, d.3, d.4)) c.drive_several.ensures.driven
