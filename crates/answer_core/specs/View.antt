@@ -25,7 +25,7 @@ outcome_view (Negative code) = Negative code
 outcome_view (Positive records scope) = Positive (records_view records) scope
 outcome_view (Truncated scope) = Truncated scope
 
--- at most forty addresses, under a name of at most 128 octets; name servers under one of at most 64. At size 0 that says of the records' number alone that a count of 16 bits can tell it
+-- at most forty addresses, under a name of at most 128 octets; name servers under one of at most 64. At size 0 that bounds the addresses alone
 abbrev pub AreShort : ℕ → Records (List Addr) → Type 0
 AreShort size Soa = Unit {0}
 AreShort size NameServers = size ≤ 64

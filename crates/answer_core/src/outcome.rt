@@ -148,7 +148,6 @@ fn at_service<'v>(
     at_pool(version, pool, kind, scope)
 }
 
-/// The apex.
 fn at_apex<'v>(kind: u16) -> Outcome<&'v [Addr]>
     ensures exact { outcome_view result ≡ at_apex kind }
     ensures short { (size : ℕ) → size ≤ 64 → IsShort size (outcome_view result) }

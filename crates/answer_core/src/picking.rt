@@ -34,7 +34,6 @@ fn place(amounts: &[u32], slot: u32) -> Option<u8>
     None
 }
 
-/// The sum of amounts.
 fn total(amounts: &[u32]) -> u32
     requires { sum amounts.now < 2 ^ 32 }
     ensures { result ≡ sum amounts.now }

@@ -24,7 +24,6 @@ fn place_of(services: &[Name], labels: &[u8]) -> Option<usize>
         .position(|service| same_name(labels, labels_part(service)))
 }
 
-/// Whether a name under the apex is the apex.
 #[tactic(auto, using(crate::proofs::Labels::by_length))]
 pub(crate) fn is_apex(zone: &Zone, name: &[u8]) -> bool
     requires { is_under name.now zone.now.apex ≡ true }

@@ -59,7 +59,6 @@ fn are_refused(instance: &Instance, state: &State, bars: &[Option<Key>], group: 
     true
 }
 
-/// Whether a group has units at its pointer.
 fn holds_at_pointer(instance: &Instance, state: &State, group: GroupId) -> bool
     requires open { IsOpen instance.now state.now }
     requires group { group.0 < length instance.now.groups }

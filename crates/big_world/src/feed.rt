@@ -63,7 +63,6 @@ fn push_change(alloc: Global, pen: &mut Pen, groups: u32) -> Result<(), NoMemory
     }
 }
 
-/// A batch.
 #[tactic(auto, unfolding(crate::specs::Feed::batch_text, crate::specs::Feed::behind_batch))]
 fn push_batch(alloc: Global, pen: &mut Pen, groups: u32) -> Result<(), NoMemory>
     requires some { 1 ≤ groups }

@@ -13,7 +13,6 @@ use std::alloc::Global;
 /// The most pools of a list.
 const MOST_POOLS: u32 = 8;
 
-/// How many pools a world of so many groups has.
 fn pools_of(groups: u32) -> u32
     requires { groups ≤ LARGEST_WORLD }
     ensures pools { result ≡ pools_of groups }
@@ -75,7 +74,6 @@ fn push_scores(alloc: Global, pen: &mut Pen, length: u32) -> Result<(), NoMemory
     Ok(())
 }
 
-/// The prefixes of a group.
 #[tactic(auto, unfolding(crate::specs::Topology::prefixes_text))]
 fn prefixes_text(alloc: Global, group: u32) -> Result<String, NoMemory>
     requires { group < 65536 }
@@ -89,7 +87,6 @@ fn prefixes_text(alloc: Global, group: u32) -> Result<String, NoMemory>
     Ok(format!(in alloc; "\"100.{upper}.{lower}.0/24\"")?)
 }
 
-/// The name of a group.
 fn group_name(alloc: Global, group: u32) -> Result<String, NoMemory>
     ensures { IfOk result (λ t. string_bytes t ≡ group_name group) }
 {
@@ -116,7 +113,6 @@ fn push_pools_line(
     Ok(())
 }
 
-/// The line of the prefixes of a group.
 #[tactic(auto, unfolding(crate::specs::Topology::prefixes_line))]
 fn push_prefixes_line(alloc: Global, text: &mut Vec<u8>, group: u32) -> Result<(), NoMemory>
     requires { group < 65536 }
@@ -153,7 +149,6 @@ fn push_head(alloc: Global, text: &mut Vec<u8>, group: u32, demand: u32) -> Resu
     Ok(())
 }
 
-/// A group.
 #[tactic(auto, unfolding(crate::specs::Topology::group_text, crate::specs::Topology::entry_text))]
 fn push_group(alloc: Global, pen: &mut Pen, groups: u32, group: u32) -> Result<(), NoMemory>
     requires groups { groups ≤ LARGEST_WORLD }

@@ -48,7 +48,6 @@ pub fn push_name(text: &mut Vec<u8>, name: &[u8]) -> Result<(), NoMemory>
     Ok(())
 }
 
-/// The name of a region.
 fn region_name(alloc: Global, region: u32) -> Result<String, NoMemory>
     ensures { IfOk result (λ t. string_bytes t ≡ region_name region) }
 {
@@ -62,7 +61,6 @@ pub fn pool_name(alloc: Global, region: u32, pool: u32) -> Result<String, NoMemo
     Ok(format!(in alloc; "r{region}-{pool}")?)
 }
 
-/// The line with the address of a pool.
 #[tactic(auto, unfolding(crate::specs::Topology::address_line))]
 fn address_line(alloc: Global, region: u32, pool: u32) -> Result<String, NoMemory>
     requires { pool < 4 }
@@ -74,7 +72,6 @@ fn address_line(alloc: Global, region: u32, pool: u32) -> Result<String, NoMemor
     Ok(format!(in alloc; "a = [\"10.{upper}.{lower}.{host}\"]\n")?)
 }
 
-/// The line with a capacity.
 #[tactic(auto, unfolding(crate::specs::Topology::capacity_line))]
 fn capacity_line(alloc: Global, capacity: u32) -> Result<String, NoMemory>
     ensures { IfOk result (λ t. string_bytes t ≡ capacity_line capacity) }
@@ -90,7 +87,6 @@ fn parent_line(alloc: Global, region: u32) -> Result<String, NoMemory>
     Ok(format!(in alloc; "parent = \"r{region}\"\n")?)
 }
 
-/// A region.
 #[tactic(auto, unfolding(crate::specs::Topology::region_text))]
 fn push_region(
     alloc: Global,
@@ -107,7 +103,6 @@ fn push_region(
     Ok(())
 }
 
-/// A pool of a region.
 #[tactic(auto, unfolding(crate::specs::Topology::pool_text))]
 fn push_pool(
     alloc: Global,
@@ -128,7 +123,6 @@ fn push_pool(
     Ok(())
 }
 
-/// The capacity of a node.
 #[tactic(auto, unfolding(crate::specs::Topology::capacity_of))]
 fn draw_capacity(draws: &mut Draws, node: u32) -> u32
     ensures capacity { result ≡ capacity_of node draws.old.last }
@@ -141,7 +135,6 @@ fn draw_capacity(draws: &mut Draws, node: u32) -> u32
     }
 }
 
-/// A node.
 #[tactic(auto, unfolding(crate::specs::Topology::node_text))]
 fn push_node(alloc: Global, pen: &mut Pen, node: u32) -> Result<(), NoMemory>
     ensures text { OnOk result (pen.new.text.items ≡ pen.old.text.items

@@ -27,7 +27,6 @@ pub struct Bar {
     pub key: Key,
 }
 
-/// Whether a node is full.
 fn is_full(instance: &Instance, state: &State, at: NodeId) -> bool
     requires ready { IsReady instance.now state.now }
     requires node { at.0 < length instance.now.nodes }

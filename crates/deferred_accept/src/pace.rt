@@ -5,7 +5,6 @@ ghost use Rattle.std.specs.Prelude.{ℕ, ◌<◌, ◌≤◌, ◌^◌, All, IfSom
 use evict::Eviction;
 use map_model::{GroupId, Instance};
 
-/// The places of all lists.
 fn places(instance: &Instance) -> u64
     ensures { result ≤ 2 ^ 24 }
 {

@@ -29,7 +29,6 @@ impl Model for WorkList {
     ghost invariant = { λ w. HoldsEachOnce w.groups.items w.is_on.items };
 }
 
-/// The first so many groups.
 fn first_groups(alloc: Global, count: u32) -> Result<VecDeque<GroupId>, NoMemory>
     ensures there { IfOk result (λ groups. All (λ x. x.0 < count) groups.items) }
     ensures once { IfOk result (λ groups. (h : ℕ) → h < count → times groups.items h ≡ 1) }

@@ -100,7 +100,6 @@ fn two_words(text: &[u8]) -> Option<(&[u8], &[u8])>
     }
 }
 
-/// The name and the number of a change.
 fn read_change(rest: &[u8]) -> Result<(&[u8], u64), LineFault>
     ensures { (said : List ℕ → ℕ → Said)
         → MatchResult result (λ r. change_of said (two_of (words_of rest.now))
@@ -147,7 +146,6 @@ fn alone<'a>(line: Line<'a>, rest: &[u8]) -> Result<Line<'a>, LineFault>
     }
 }
 
-/// The change of a group.
 pub(crate) fn demand_line(rest: &[u8]) -> Result<Line<'_>, LineFault>
     ensures change { IfOk result IsChangeLine }
     ensures short { IfOk result (IsShort (length rest.now)) }
@@ -160,7 +158,6 @@ pub(crate) fn demand_line(rest: &[u8]) -> Result<Line<'_>, LineFault>
     }
 }
 
-/// The change of a node.
 pub(crate) fn capacity_line(rest: &[u8]) -> Result<Line<'_>, LineFault>
     ensures change { IfOk result IsChangeLine }
     ensures short { IfOk result (IsShort (length rest.now)) }

@@ -39,7 +39,6 @@ pub(crate) struct Hall {
     turns: u64,
 }
 
-/// Free places.
 fn free_seats(alloc: Global, places: usize) -> Result<Vec<Seat>, NoMemory>
     ensures { IfOk result (λ seats. AreFree places seats.items) }
 {
@@ -113,7 +112,6 @@ impl Hall {
         }
     }
 
-    /// So many places, which are free.
     pub(crate) fn with_places(alloc: Global, places: usize) -> Result<Hall, NoMemory>
         ensures { IfOk result (λ hall. (hall.current ≡ None) × (hall.turns ≡ 0)
             × AreFree places hall.seats.items × AreEmpty places hall.rooms.items) }

@@ -135,7 +135,6 @@ fn count_of(seats: &[Seat], addr: Addr) -> usize
     seats.iter().filter(|seat| is_of(seat, addr)).count()
 }
 
-/// The first place that is free.
 fn first_free(seats: &[Seat]) -> Option<usize>
     ensures { result ≡ position is_free seats.now }
 {

@@ -150,7 +150,6 @@ fn may_fill(seat: &Seat, room: &Room) -> bool
     seat.is_readable && !seat.is_over && room.coming.len() < LARGEST_FRAME
 }
 
-/// Reads what is there.
 fn fill(seat: &mut Seat, room: &mut Room)
     ensures octets { IsFilled
         room.old.coming.items room.new.coming.items room.old.going.items room.new.going.items }

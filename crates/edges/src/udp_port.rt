@@ -167,7 +167,6 @@ fn bind_first<N: Net>(net: &N, shared: &SharedUdp, listen: Listen) -> Option<Bou
     })
 }
 
-/// A further socket there.
 fn further<N: Net>(net: &N, shared: &SharedUdp, first: &Bound) -> Option<UdpSocket> {
     if !first.is_handed {
         return bind_beside(net, &first.socket).ok();

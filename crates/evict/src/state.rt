@@ -53,7 +53,6 @@ impl Model for State {
     ghost invariant = { λ s. IsTrue s.whole → IsSound s.held s.tree s.free.items s.totals.items };
 }
 
-/// The demand of each group.
 fn demands(alloc: Global, instance: &Instance) -> Result<Vec<Units>, NoMemory>
     ensures count { IfOk result (λ demands. length demands.items ≡ length instance.now.groups) }
     ensures each { IfOk result (λ demands. (g : ℕ) → g < length instance.now.groups

@@ -80,7 +80,6 @@ fn send_by<N: Numbers, R: Wait>(rt: &R, ring: &Ring<N>, pass: &mut Seat, number:
     unreachable!()
 }
 
-/// Whether it is a batch.
 fn is_batch(what: &What) -> bool
     ensures { result ≡ is_batch what.now }
 {
@@ -118,7 +117,6 @@ impl<N: Numbers> Feeder<N> {
         self.batch_count < MOST_BATCHES
     }
 
-    /// Sends this as its next item.
     pub(crate) fn send_next<R: Wait>(&mut self, rt: &R, what: What)
         requires number { length self.old.sent < 2 ^ 64 - 1 }
         requires fits { Fits N.groups N.nodes what }

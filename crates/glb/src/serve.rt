@@ -179,7 +179,6 @@ fn open_mapper<J: Naming, R: Wait, P: Port, G: Gate, D: Door>(
     open_first::<J, R, P, G, D>(rt, alloc, history, topology, workers, first)
 }
 
-/// How many lanes there are in all.
 fn lanes_of(service: &Service<'_>) -> u8
     requires { service.now.workers ≤ most_workers service.now.tcp }
     ensures { result ≡ lanes_of (service_asked service.now) }
@@ -190,7 +189,6 @@ fn lanes_of(service: &Service<'_>) -> u8
     }
 }
 
-/// How many names are given.
 fn count_of(names: &[Option<&str>]) -> usize
     ensures count { result ≡ length (given (map (option_map (λ n. n.now)) names.now)) }
     ensures few { result ≤ length names.now }

@@ -23,7 +23,6 @@ pub enum Start {
     NoSink,
 }
 
-/// Opens the port of one lane.
 fn open_port<P: Port, G: Gate, D: Door>(lanes: &mut [Lane<P, G, D>], listen: &Listen) -> Opening
     requires { length lanes.old ≡ 1 }
     ensures same { length lanes.new ≡ length lanes.old }

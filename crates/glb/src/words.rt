@@ -87,7 +87,6 @@ fn most_workers(tcp: &Option<Listen>) -> usize
     }
 }
 
-/// How many workers there are to be.
 fn read_workers(text: Option<&str>, most: usize) -> Option<u8>
     requires most { (1 ≤ most) × (most ≤ 16) }
     ensures workers { result ≡ workers_of most (option_map (λ t. t.now) text.entry) }
@@ -169,7 +168,6 @@ fn read_answer<'a>(
     }
 }
 
-/// A command, as an order.
 fn order_of(command: Option<Command<'_>>) -> Option<Order<'_>>
     ensures asked { option_map task_of result ≡ option_map say (option_map ask_of command.entry) }
     ensures manned { IsManned result }

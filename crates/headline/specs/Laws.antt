@@ -1,5 +1,5 @@
--- The page follows from what the program promises, its words are the program's, and two runs over
--- the same octets agree.
+-- The page follows from what the program promises, what is good by its words is good by the
+-- program's, and two runs over the same octets agree.
 use Rattle.std.specs.Prelude.{◌≡◌, ℕ, List, [], map, Contains, Option, Some}
 use Rattle.std.specs.List.{concat}
 use Rattle.outside.specs.Faults.{BothTell}
@@ -55,14 +55,14 @@ Agree = (turns others : ℕ) (ask other : Service) (before after then later : Su
     × PutsOut out before after × PutsOut out then later
     × PutsMaps maps before after × PutsMaps maps then later
 
--- The page's words are the program's: a good map of the page is feasible and stable there, and the
--- best of all good ones is the best there.
+-- The page's words ask for no less than the program's: lines that are good by the page are feasible
+-- and stable there, and the best of all good ones are the best there.
 abbrev pub Same : Type 0
 Same = (m : Market) → IsMarket m → (lines : List MapLine) (names : List Name) →
     IsGood (instance m) (map line lines) names → IsFeasible m lines × IsStable m lines
     × (IsBestOf (instance m) (λ _. Unit {0}) (map line lines) → IsGroupBest m lines)
 
--- Of a map, for the same numbers, there is one repaired map at most.
+-- Of a map, for the same numbers, all repaired maps have the same lines.
 abbrev pub OneIsRepaired : Type 0
 OneIsRepaired = (m : Market) → IsMarket m → (old : Instance) (was : List Line) (x y : List MapLine)
     (of_x of_y : List Name) → IsGood (instance m) (map line x) of_x →

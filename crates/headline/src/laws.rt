@@ -12,8 +12,8 @@ pub fn agreed()
     ensures { Agree }
 {}
 
-/// What is good and the best by the page's words is so by the program's, and a map has one repaired map at most for the same
-/// numbers.
+/// Lines that are good and the best by the page's words are so by the program's, and all repaired maps of a map have the same
+/// lines for the same numbers.
 pub fn alike()
     ensures same { Same }
     ensures one { OneIsRepaired }

@@ -166,7 +166,6 @@ impl<J: Naming> Viewer<J> {
     }
 }
 
-/// A viewer that has seen what the front has.
 pub(crate) fn new_viewer<J: Naming>(reader: CellReader, front: &Front<J>) -> Viewer<J>
     requires some { 0 < length front.now }
     requires book { client_view reader.place ≡ tag_of J.book }

@@ -30,14 +30,12 @@ pub struct Written {
     pub cuts: Cuts,
 }
 
-/// Whether lines are the same.
 fn same_lines(old: &[MapLine], new: &[MapLine]) -> bool
     ensures { Decides result (old.now ≡ new.now) }
 {
     old == new
 }
 
-/// Whether names are the same.
 fn same_names(old: &[NameLine], new: &[NameLine]) -> bool
     ensures { Decides result (old.now ≡ new.now) }
 {

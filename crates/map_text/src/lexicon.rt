@@ -25,7 +25,6 @@ pub struct GroupWord {
     pub word: Word,
 }
 
-/// The names of nodes.
 fn node_words(alloc: Global, topology: &Topology) -> Result<Vec<Word>, NoMemory>
     ensures { IfOk result (λ words. words.items ≡ topology.now.node_names) }
 {

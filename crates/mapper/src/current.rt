@@ -257,7 +257,6 @@ pub(crate) fn first_of<L>(
     Ok(First { current, kept })
 }
 
-/// A state of a map.
 pub(crate) fn kept_of(alloc: Global, current: &Current) -> Result<Kept, NoMemory>
     requires { IsGood current.now.instance current.now.map.lines.items current.now.map.names.items }
     ensures { IfOk result (λ kept.

@@ -52,7 +52,6 @@ const MARKED_ROOM: usize = 2_642;
 /// A line of control text behind its feed's mark.
 pub(crate) type Marked = ArrayVec<u8, MARKED_ROOM>;
 
-/// Appends octets.
 fn push(line: &mut Spoken, octets: &[u8])
     requires { length line.old.items + length octets.now ≤ LINE_ROOM }
     ensures { line.new.items ≡ line.old.items ++ octets.now }

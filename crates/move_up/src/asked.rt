@@ -41,7 +41,6 @@ impl Model for Offers {
 }
 
 impl Offers {
-    /// No offer.
     fn new(alloc: Global) -> Offers
         ensures { result ≡ [] }
     {
@@ -89,7 +88,6 @@ impl Offers {
     }
 }
 
-/// The key of an offer.
 fn key_at(instance: &Instance, offer: Offer) -> Option<Key> {
     if is_offer(instance, offer) {
         Some(instance.key(offer))
@@ -161,7 +159,6 @@ impl Model for Asked {
     ghost view = { λ a. a.by_root.items };
 }
 
-/// So many empty lists.
 fn no_offers(alloc: Global, count: u32) -> Result<Vec<Offers>, NoMemory>
     ensures count { IfOk result (λ lists. length lists.items ≡ count) }
     ensures empty { IfOk result (λ lists. (n : ℕ) → listed_at lists.items n ≡ []) }
@@ -183,7 +180,6 @@ fn list_offer(lists: &mut [Offers], at: usize, offer: Offer) -> Result<(), NoMem
     Ok(())
 }
 
-/// Lists the offers of a group.
 fn list_group(
     instance: &Instance,
     state: &State,
@@ -204,7 +200,6 @@ fn list_group(
     Ok(())
 }
 
-/// Lists all offers.
 fn list_all(instance: &Instance, state: &State, lists: &mut [Offers]) -> Result<(), NoMemory>
     requires ready { IsReady instance.now state.now }
     requires count { length lists.old ≡ length instance.now.nodes }

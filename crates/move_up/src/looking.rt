@@ -37,7 +37,6 @@ pub(crate) enum Look {
     Other,
 }
 
-/// Looks at an offer.
 pub(crate) fn look_at(instance: &Instance, state: &State, offer: Offer) -> Look
     requires { IsOpen instance.now state.now }
 {
@@ -122,7 +121,6 @@ const NOTHING: Found = Found {
     looks: 0,
 };
 
-/// What is found in a run.
 fn best_in_run(instance: &Instance, state: &State, offers: &Offers, run: Run) -> Found
     requires { IsOpen instance.now state.now }
 {
@@ -153,7 +151,6 @@ fn run_to(offers: &Offers, pool: NodeId) -> Option<Run> {
     if run.pool == pool { Some(run) } else { None }
 }
 
-/// What is found for a pool.
 pub(crate) fn best_at(instance: &Instance, state: &State, asked: &Asked, pool: NodeId) -> Found
     requires { IsOpen instance.now state.now }
 {

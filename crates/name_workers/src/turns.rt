@@ -10,7 +10,6 @@ use lane_model::Ended;
 use map_cell::{Door, Naming, Note};
 use outside::{Gate, Notes, Turning};
 
-/// One turn.
 fn one_turn<J: Naming, P, T: Takes<P>, G: Gate, D: Door, N: Notes<Note<J>>>(
     worker: &mut Worker<J>,
     port: &mut P,

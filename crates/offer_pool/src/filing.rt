@@ -46,7 +46,6 @@ fn clean(queue: &mut Queue, amounts: &[u32])
     }
 }
 
-/// Cleans one queue.
 fn clean_at(queues: &mut [Queue], at: usize, amounts: &[u32])
     requires at { at < length queues.old }
     requires seats { (s : Seat) → Contains (queue_at queues.old at) s → place_at s.group.0 s.place

@@ -43,7 +43,6 @@ impl Model for Lists {
     ghost invariant = { λ l. IsMarket (record { groups = l.rows.items; nodes = l.nodes.items }) };
 }
 
-/// The row of a group.
 fn row_of(instance: &Instance, group: GroupId) -> Row
     requires { group.0 < length instance.now.groups }
     ensures { result ≡ group_at instance.now group.0 }
@@ -66,7 +65,6 @@ fn row_of(instance: &Instance, group: GroupId) -> Row
     }
 }
 
-/// The rows of all groups.
 fn rows_of(alloc: Global, instance: &Instance) -> Result<Vec<Row>, NoMemory>
     ensures { IfOk result (λ rows. rows.items ≡ instance.now.groups) }
 {
@@ -77,7 +75,6 @@ fn rows_of(alloc: Global, instance: &Instance) -> Result<Vec<Row>, NoMemory>
     Ok(rows)
 }
 
-/// All nodes.
 fn nodes_of(alloc: Global, instance: &Instance) -> Result<Vec<Node>, NoMemory>
     ensures { IfOk result (λ nodes. nodes.items ≡ instance.now.nodes) }
 {

@@ -15,7 +15,6 @@ use map_model::{GroupId, LEVELS, MapLine, NodeId, Offer, PLACES, Units};
 use no_memory::NoMemory;
 use std::alloc::Global;
 
-/// The seat of an offer.
 fn seat_of(lists: &Lists, offer: Offer) -> Seat
     requires { IsOffer lists.now offer.group.0 offer.place }
     ensures { result ≡ seat_at lists.now offer.group.0 offer.place }

@@ -99,7 +99,6 @@ impl Milestones {
         has_all
     }
 
-    /// A turn of a lane begins.
     pub(crate) fn begin_turn(&self, lane: HeldLane) {
         self.turns(lane).fetch_add(1, SeqCst);
     }

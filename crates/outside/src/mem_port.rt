@@ -163,7 +163,6 @@ impl MemPort {
     }
 }
 
-/// Puts octets at the front of a buffer.
 fn put_octets(buffer: &mut [u8], octets: &[u8])
     requires { length octets.now ≤ length buffer.old }
     ensures front { take (length octets.now) buffer.new ≡ octets.now }
@@ -172,7 +171,6 @@ fn put_octets(buffer: &mut [u8], octets: &[u8])
     buffer[..octets.len()].copy_from_slice(octets);
 }
 
-/// A copy of the octets of a reply.
 fn copied(octets: &[u8]) -> ArrayVec<u8, LARGEST_REPLY>
     requires { length octets.now ≤ LARGEST_REPLY }
     ensures { result.items ≡ octets.now }

@@ -383,7 +383,6 @@ impl Streams for MemStreams {
     }
 }
 
-/// Whether a read failed.
 fn is_broken(reading: &Reading) -> bool
     ensures { result ≡ is_broken reading.now }
 {

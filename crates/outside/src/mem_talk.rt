@@ -172,7 +172,6 @@ impl MemTalk {
     }
 }
 
-/// Puts octets at the front of a buffer.
 fn put_octets(buffer: &mut [u8], octets: &[u8])
     requires { length octets.now ≤ length buffer.old }
     ensures front { take (length octets.now) buffer.new ≡ octets.now }

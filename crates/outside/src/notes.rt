@@ -9,7 +9,6 @@ pub trait Numbered {
     /// Its number.
     ghost number: { Self → ℕ };
 
-    /// Its number.
     fn as_number(&self) -> u64
         ensures { result ≡ number self.now };
 }

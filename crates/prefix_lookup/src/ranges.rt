@@ -81,11 +81,9 @@ trait Starts {
     /// Where the ranges begin.
     ghost starts: { Self → List ℕ };
 
-    /// How many there are.
     fn count(&self) -> usize
         ensures { result ≡ length (starts self.now) };
 
-    /// The start at a place.
     fn at(&self, place: usize) -> u128
         requires { place < length (starts self.now) }
         ensures { result ≡ start_at (starts self.now) place };
@@ -185,7 +183,6 @@ fn next_at<S: Starts>(starts: &S, place: usize) -> Option<u128>
     }
 }
 
-/// The range at a place.
 #[inline(always)]
 fn range_at<S: Starts>(starts: &S, groups: &[GroupId], place: usize) -> Range
     requires place { place < length (S.starts starts.now) }
@@ -199,7 +196,6 @@ fn range_at<S: Starts>(starts: &S, groups: &[GroupId], place: usize) -> Range
     }
 }
 
-/// The range in which a number is.
 #[inline(always)]
 fn range_in<S: Starts, T: Tally>(
     starts: &S,

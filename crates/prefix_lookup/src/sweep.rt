@@ -96,7 +96,6 @@ fn has_ended(family: Family, block: Block, limit: Option<u128>) -> bool
     }
 }
 
-/// The innermost of the open blocks.
 fn innermost(opened: &[Block]) -> Option<Block>
     ensures { SomeIff result (0 < length opened.now) (block_at opened.now (length opened.now - 1)) }
 {

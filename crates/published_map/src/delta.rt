@@ -25,14 +25,12 @@ pub struct Delta {
     pub nodes: Vec<(NodeId, Units)>,
 }
 
-/// Whether lines are the same.
 fn same_lines(old: &[MapLine], new: &[MapLine]) -> bool
     ensures { Decides result (old.now ≡ new.now) }
 {
     old == new
 }
 
-/// Whether names are the same.
 fn same_names(old: &[NameLine], new: &[NameLine]) -> bool
     ensures { Decides result (old.now ≡ new.now) }
 {

@@ -14,7 +14,6 @@ pub(crate) struct Part<'a> {
     pub names: &'a [NameLine],
 }
 
-/// How many lines of that group come first.
 fn leading_lines(lines: &[MapLine], group: GroupId) -> usize
     ensures { result ≡ prefix_len (λ l. l.group.0 == group.0) lines.now }
 {
@@ -48,7 +47,6 @@ pub(crate) fn split<'a>(part: Part<'a>, group: GroupId) -> (Part<'a>, Part<'a>)
     (Part { lines, names }, behind)
 }
 
-/// The amounts of lines.
 fn amounts_of(lines: &[MapLine]) -> ArrayVec<(u8, u32), PLACES>
     requires { length lines.now ≤ PLACES }
     ensures { result.items ≡ map (λ l. (l.place, l.amount)) lines.now }

@@ -38,7 +38,6 @@ fn units_in(pair: &(u8, u32), place: u8) -> u32
     if pair.0 == place { pair.1 } else { 0 }
 }
 
-/// The units at one place.
 fn amount_in(own: &[(u8, u32)], place: u8) -> u32
     requires { sum_by (λ a. a.1) own.now < 2 ^ 32 }
     ensures { result ≡ sum_by (λ a. if a.0 == place then a.1 else 0) own.now }

@@ -58,7 +58,6 @@ fn recall_plan(shared: &Arc<Shared>)
     let _ = shared.topology.instance();
 }
 
-/// The rows of an instance and a map.
 fn rows_of(alloc: Global, instance: &Instance, map: &MapLines) -> Result<Vec<GroupRow>, NoMemory>
     requires { IsMapForm instance.now map.now.lines.items map.now.names.items }
     ensures { IfOk result (λ rows. rows.items
@@ -78,7 +77,6 @@ fn rows_of(alloc: Global, instance: &Instance, map: &MapLines) -> Result<Vec<Gro
     Ok(rows)
 }
 
-/// The capacities of an instance.
 fn capacities_of(alloc: Global, instance: &Instance) -> Result<Vec<Units>, NoMemory>
     ensures { IfOk result (λ capacities. capacities.items ≡ capacities_of instance.now) }
 {
@@ -89,7 +87,6 @@ fn capacities_of(alloc: Global, instance: &Instance) -> Result<Vec<Units>, NoMem
     Ok(capacities)
 }
 
-/// Whether all these groups are among so many.
 fn groups_below(rows: &[(GroupId, GroupRow)], groups: usize) -> bool
     ensures { result ≡ list_all (λ r. nat_lt r.0.0 groups) rows.now }
 {

@@ -73,7 +73,6 @@ fn trim_group(instance: &Instance, state: &mut State, group: GroupId)
     state.set_total(group, instance.demand(group));
 }
 
-/// Trims each group.
 fn trim(instance: &Instance, state: &mut State)
     requires { CanCut instance.now state.old }
     ensures less { IsLess instance.now state.old state.new }

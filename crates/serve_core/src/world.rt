@@ -52,7 +52,6 @@ impl Model for World {
     ghost invariant = { λ w. IsWorld w.versions.items w.instance w.lanes.items };
 }
 
-/// The verdict on a map.
 fn judge(alloc: Global, instance: &Instance, map: &MapLines) -> Result<Verdict, NoMemory>
     ensures { IfOk result (Judges instance.now map.now.lines.items map.now.names.items) }
 {
@@ -60,7 +59,6 @@ fn judge(alloc: Global, instance: &Instance, map: &MapLines) -> Result<Verdict, 
     Ok(check(instance, map, &mut room))
 }
 
-/// The version of that serial.
 fn version_at(versions: &[MapVersion], serial: u64) -> &MapVersion
     requires { serial < length versions.now }
     ensures { slice_get versions.now serial ≡ Some result.now }

@@ -52,7 +52,6 @@ pub(crate) fn joined(held: &ArrayVec<u8, LARGEST_REST>, piece: &[u8]) -> ArrayVe
     octets
 }
 
-/// What is held of a rest.
 pub(crate) fn kept(rest: &[u8]) -> ArrayVec<u8, LARGEST_REST>
     requires { length rest.now ≤ LARGEST_REST }
     ensures { result.items ≡ rest.now }

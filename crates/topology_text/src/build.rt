@@ -26,7 +26,6 @@ pub fn natural(value: &Value) -> u64
     }
 }
 
-/// The number at a key of an entry.
 fn number_at(entry: &Value, key: Key) -> u64
     ensures { result ≡ number_at (view entry.now) key }
 {

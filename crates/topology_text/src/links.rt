@@ -132,7 +132,6 @@ impl<'a> Rule for DuplicateName<'a> {
     }
 }
 
-/// A pool has that name.
 fn is_pool_name(index: &Entries<'_>, name: &str) -> bool
     ensures { result ≡ is_pool_number (entries index.now).nodes
         (number_of (entries index.now).nodes name.now) }
@@ -237,7 +236,6 @@ fn is_same_text(one: &str, other: &str) -> bool
     end_alike(one, other) && one == other
 }
 
-/// Some item is that text.
 fn has_text(items: &[Value], text: &str) -> bool
     ensures { result ≡ list_any (bytes_eq text.now) (texts_of (map view items.now)) }
 {

@@ -98,7 +98,6 @@ const GUESSES: usize = 16_384;
 /// A name with its first number, at a place by the name's octets. Of several names of one place the last one is there.
 type Guess<'a> = Option<(&'a str, usize)>;
 
-/// The place of a name.
 fn place_of(name: &str) -> usize {
     let mut hash: u32 = 0x811c_9dc5;
     for octet in name.as_bytes() {
@@ -188,7 +187,6 @@ fn guessed(guesses: &[Guess<'_>], name: &str) -> Option<usize>
     }
 }
 
-/// Which of the entries are pools.
 fn pools_of(alloc: Global, entries: &[Value]) -> Result<Vec<bool>, AllocError>
     ensures { IfOk result (λ pools. pools.items ≡ map is_pool (map view entries.now)) }
 {

@@ -26,7 +26,6 @@ use name_text::Name;
 use std::alloc::{AllocError, Global};
 use toml::{Table, Value};
 
-/// The name of an entry.
 fn name_of(alloc: Global, entry: &Value) -> Result<Vec<u8>, AllocError>
     ensures { IfOk result (λ v. v.items ≡ name_of (view entry.now)) }
 {
@@ -108,7 +107,6 @@ fn addresses(alloc: Global, key: Key, items: &[Value]) -> Result<Vec<Addr>, Allo
     Ok(addresses)
 }
 
-/// The addresses of an entry.
 fn hosts_of(alloc: Global, entry: &Value) -> Result<Hosts, AllocError>
     ensures { IfOk result (λ h. h ≡ hosts_of (view entry.now)) }
 {
@@ -128,7 +126,6 @@ fn all_hosts(alloc: Global, entries: &[Value]) -> Result<Vec<Hosts>, AllocError>
     Ok(hosts)
 }
 
-/// Each prefix with its group.
 fn owned(alloc: Global, prefixes: &[PrefixAt]) -> Result<Vec<(Prefix, GroupId)>, AllocError>
     requires { All (λ e. e.group < 2 ^ 32) prefixes.now }
     ensures { IfOk result (λ v. v.items ≡ map owned prefixes.now) }
@@ -140,7 +137,6 @@ fn owned(alloc: Global, prefixes: &[PrefixAt]) -> Result<Vec<(Prefix, GroupId)>,
     Ok(owned)
 }
 
-/// The name at a key of the zone.
 fn zone_name_at(zone: Option<&Table>, key: Key) -> Name
     requires { IsTrue (is_some (option_and_then zone_name
         (zone_text (option_map (λ t. table_view t.now) zone) key))) }
@@ -151,7 +147,6 @@ fn zone_name_at(zone: Option<&Table>, key: Key) -> Name
         .unwrap()
 }
 
-/// The number at a key of the zone.
 fn zone_number(zone: Option<&Table>, key: Key) -> u32
     requires { zone_number (option_map (λ t. table_view t.now) zone) key < 2 ^ 32 }
     ensures { result ≡ zone_number (option_map (λ t. table_view t.now) zone.entry) key }
@@ -165,7 +160,6 @@ fn zone_number(zone: Option<&Table>, key: Key) -> u32
     }
 }
 
-/// The zone.
 fn zone_of(alloc: Global, zone: Option<&Table>) -> Result<Zone, AllocError>
     requires { IsSoundZone (option_map (λ t. table_view t.now) zone) }
     ensures { IfOk result (λ z. z ≡ zone_of (option_map (λ t. table_view t.now) zone.entry)) }

@@ -25,7 +25,6 @@ use crate::walk::walk;
 use std::alloc::Global;
 use toml::Table;
 
-/// Keys and kinds.
 fn check_shape(tables: &[TableAt<'_>]) -> Result<(), TopologyFault>
     ensures { result ≡ checked (shape_faults (map visit tables.now)) }
 {
@@ -150,7 +149,6 @@ fn check(
     check_lists(index, tables)
 }
 
-/// The table that the bytes are.
 fn parse(alloc: Global, bytes: &[u8]) -> Result<Table, TopologyFault>
     ensures ok { IfOk result (λ t. document bytes.now ≡ Some (table_view t)) }
     ensures refused { IfErr result (λ e. HasNoTable bytes.now e) }

@@ -13,7 +13,6 @@ pub trait Rule {
 
     ghost finds: { Self → Visit → Key → List At };
 
-    /// The first fault at the key.
     fn first(&self, table: &TableAt<'_>, key: Key) -> Option<At>
         ensures { result ≡ first (finds self.now (visit table.now) key) };
 }

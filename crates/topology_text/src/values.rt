@@ -30,7 +30,6 @@ pub trait Test {
         ensures { result ≡ fails self.now key (view value.now) };
 }
 
-/// The first item that fails a test.
 fn first_item<T: Test>(test: &T, key: Key, items: &[Value]) -> Option<At>
     ensures { result ≡ first (items_where (T.fails test.now key) (map view items.now)) }
 {
@@ -42,7 +41,6 @@ fn first_item<T: Test>(test: &T, key: Key, items: &[Value]) -> Option<At>
     None
 }
 
-/// Where a test first fails a value.
 fn first_failing<T: Test>(test: &T, key: Key, value: &Value) -> Option<At>
     ensures { result ≡ first (failing (T.fails test.now key) (Some (view value.now))) }
 {
@@ -85,7 +83,6 @@ impl Rule for MissingKey {
     }
 }
 
-/// The value is of that kind.
 fn is_kind(kind: Kind, value: &Value) -> bool
     ensures { result ≡ is_kind kind (view value.now) }
 {
@@ -173,7 +170,6 @@ fn is_within(low: u64, high: u64, number: i64) -> bool
     }
 }
 
-/// The number is in the range of its key.
 fn is_in_range(key: Key, number: i64) -> bool
     ensures { result ≡ is_in_range key number }
 {
