@@ -12,9 +12,13 @@ let through are shown: by docs/PROVED.md nothing is promised there, or the answe
 to a cause. One that no longer fits the text is named too.
 
 It takes as long as some checks of the crate, from minutes to half an hour, beside the libraries below it, which a copy
-builds anew where no check has kept them. Status 0 where each bug could be tried.
+builds anew where no check has kept them.
+
+Status 0 where each bug could be tried, 1 where one could not, and 2 where the words are wrong: then nothing is copied or
+checked.
 """
 
+import argparse
 import re
 import shutil
 import subprocess
@@ -87,7 +91,9 @@ def outcome_of(functions, found):
             for path, answer in found
             if path.split("::")[-1] == function or f"::fn::{function}::" in path
         ]
-        answers += [answer for path, answer in named if f"::{module}::" in path] or [answer for _, answer in named]
+        answers += [answer for path, answer in named if f"::{module}::" in path] or [
+            answer for _, answer in named
+        ]
     if not answers:
         return None
     if all(answer in ("no holes", "proved") for answer in answers):
@@ -101,7 +107,8 @@ def outcome_of(functions, found):
 
 def judge(folder, crate):
     """Tries the bugs of a crate in a copy of its folder, in rounds: a function that calls a wrong one may not have been
-    looked at, and then its bug stands in the next round, without those that were judged. Gives the outcome of each."""
+    looked at, and then its bug stands in the next round, without those that were judged. Gives the outcome of each.
+    """
     bugs = {name: edits for name, _, edits in bugs_of(crate)}
     files = {file for edits in bugs.values() for file, _, _ in edits}
     texts = {file: (folder / file).read_text() for file in files}
@@ -111,12 +118,18 @@ def judge(folder, crate):
         for file, text in texts.items():
             (folder / file).write_text(text)
         planted = plant(folder, left)
-        said = subprocess.run(["rt", "check", "--allow-holes"], cwd=folder, capture_output=True, text=True).stdout
+        said = subprocess.run(
+            ["rt", "check", "--allow-holes"], cwd=folder, capture_output=True, text=True
+        ).stdout
         found = verdicts(said)
         if not found:
             print(f"{crate}: the check judged nothing: {said.strip()[-300:]}")
             break
-        judged = {name: outcome_of(functions, found) for name, functions in planted.items() if functions is not None}
+        judged = {
+            name: outcome_of(functions, found)
+            for name, functions in planted.items()
+            if functions is not None
+        }
         judged = {name: outcome for name, outcome in judged.items() if outcome}
         if not judged:
             break
@@ -143,9 +156,23 @@ def tried(crate):
 
 
 def main():
-    if not sys.argv[1:]:
-        sys.exit(__doc__)
-    results = [tried(crate) for crate in sys.argv[1:]]
+    words = argparse.ArgumentParser(
+        usage="bench/planted.py CRATE..",
+        description=__doc__,
+        formatter_class=argparse.RawDescriptionHelpFormatter,
+    )
+    words.add_argument(
+        "crates",
+        metavar="CRATE",
+        nargs="+",
+        help="a crate with a file of bugs, bench/planted/CRATE.edits",
+    )
+    crates = words.parse_args().crates
+    known = {file.stem for file in PLANTED.glob("*.edits")}
+    for crate in crates:
+        if crate not in known:
+            words.error(f"{crate}: bench/planted has no file of bugs for it")
+    results = [tried(crate) for crate in crates]
     sys.exit(0 if all(results) else 1)
 
 
