@@ -1,19 +1,22 @@
 #!/usr/bin/env python3
 """Hunts for a state in which glb-fleet says that all is well, and a server answers otherwise.
 
-    bench/fleet_hunt.py [--seconds N] [--seed N] [--one] [--keep] [--glb PROGRAM]
+    bench/fleet_hunt.py [--watch] [--seconds N] [--seed N] [--one] [--keep] [--glb PROGRAM]
 
 Each seed is a schedule: one or three members of etcd, one to three servers with their followers,
 and a dozen of things that befall them, at random. Behind it all is mended, and it is quiet. All
 the while, and in the end, each server that glb-fleet calls `there` has to have put the map that a
 replay of the log gives. The replay is made apart: the log is read here by code of its own, and
 `glb serve` works it once more. It wants root (tmpfs), etcd-server, etcd-client and a C compiler.
+
+With --watch each schedule also has glb-watch, glb-drain, glb-exporter and Prometheus over machines
+that fail and come back, and these are killed and held, too (hunt_watch.py says what is compared).
+That wants prometheus, python3-requests and python3-prometheus-client as well.
 """
 
 import argparse
 import base64
 import contextlib
-import hashlib
 import json
 import random
 import re
@@ -28,12 +31,13 @@ import threading
 import time
 import tomllib
 import traceback
-import zlib
 from pathlib import Path
 
 sys.path.append(str(Path(__file__).resolve().parent.parent / "tools"))
 
-from hunt_world import TOP, Fleet  # noqa: E402
+from hunt_log import Keys, Log, digest, is_number, replayed  # noqa: E402
+from hunt_watch import Beside  # noqa: E402
+from hunt_world import TOP, Fleet, Wrong  # noqa: E402
 
 from glb_tools import fleet as fleet_tool  # noqa: E402
 from glb_tools import log as log_tool  # noqa: E402
@@ -43,177 +47,12 @@ from glb_tools.options import Fault  # noqa: E402
 DROPPED = "was dropped whole"
 
 
-class Wrong(Exception):
-    """What the hunt is for."""
-
-
-# The log, read by code of its own.
-
-
-def digest(octets):
-    return hashlib.sha256(octets).hexdigest()
-
-
-class Keys:
-    """All keys of a fleet at one moment."""
-
-    def __init__(self, etcd):
-        ask = {
-            "key": base64.b64encode(b"glb/").decode(),
-            "range_end": base64.b64encode(b"glb0").decode(),
-        }
-        found = etcd.call("/v3/kv/range", ask)
-        self.revision = int(found["header"]["revision"])
-        self.octets = {}
-        for kv in found.get("kvs", []):
-            key = base64.b64decode(kv["key"]).decode("latin-1")
-            self.octets[key] = base64.b64decode(kv.get("value", ""))
-
-    def entries(self):
-        found = {}
-        for key, octets in self.octets.items():
-            name = key.removeprefix("glb/log/")
-            # entries are numbered from 1: what stands at 0 was put by hand, and is none
-            if name != key and is_number(name) and int(name):
-                found[int(name)] = octets
-        return found
-
-    def file(self, checksum):
-        count = self.octets.get(f"glb/file/{checksum}")
-        if count is None:
-            return None
-        pieces = [self.octets.get(f"glb/file/{checksum}/{at:04d}") for at in range(int(count))]
-        if None in pieces:
-            return None
-        octets = zlib.decompress(b"".join(pieces))
-        return octets if digest(octets) == checksum else None
-
-
-def is_change(line):
-    words = [word for word in line.split(" ") if word]
-    return (
-        all(" " <= letter <= "~" for letter in line)
-        and len(words) == 3
-        and words[0] in ("demand", "capacity")
-        and words[2].isascii()
-        and words[2].isdigit()
-        and len(words[2]) < 20
-    )
-
-
-def content_of(octets, before):
-    """What an entry says: ("batch", its lines), ("base", its checksum); None for what is none."""
-    try:
-        told = json.loads(octets)
-        for key in ("author", "why", "time", "before"):
-            told[key]
-        int(told["time"])
-        if before is not None and str(told["before"]) != before:
-            return None
-        if told["kind"] == "base":
-            int(told["upto"]), told["chain"]
-            return "base", str(told["base"])
-        if told["kind"] == "batch":
-            lines = str(told["lines"])
-            each = lines.split("\n")
-            if each.pop() == "" and len(each) <= 4096 and all(map(is_change, each)):
-                return "batch", lines
-    except (ValueError, KeyError, TypeError, RecursionError, OverflowError):
-        pass
-    return None
-
-
-class Log:
-    """The log as it stands, and what comes of it for a server of a base."""
-
-    def __init__(self, keys, memory):
-        self.keys, self.memory = keys, memory
-        self.entries = keys.entries()
-        self.numbers = sorted(self.entries)
-        self.bases = json.loads(keys.octets.get("glb/bases", b"[]"))
-        for _, checksum, _, _ in self.bases:
-            if checksum not in memory and (octets := keys.file(checksum)):
-                memory[checksum] = octets
-
-    @property
-    def last(self):
-        return self.numbers[-1] if self.numbers else 0
-
-    def checksum(self, number):
-        return digest(self.entries[number])
-
-    def content(self, number):
-        before = "" if number == 1 else None
-        if number - 1 in self.entries:
-            before = self.checksum(number - 1)
-        return content_of(self.entries[number], before)
-
-    def newest_at(self, number):
-        found = [base[1] for base in self.bases if base[0] <= number]
-        return found[-1] if found else None
-
-    def names(self, checksum):
-        told = tomllib.loads(self.memory[checksum].decode())
-        units = {each["name"] for kind in ("group", "class") for each in told.get(kind, [])}
-        return {"demand": units, "capacity": {node["name"] for node in told["node"]}}
-
-    def handed(self, base, number):
-        """The lines of an entry that a server of a base is handed."""
-        found = self.content(number)
-        if not found or found[0] != "batch":
-            return ""
-        newest = self.newest_at(number)
-        if newest in (None, base):
-            return found[1]
-        own, other, kept = self.names(base), self.names(newest), []
-        for line in found[1].splitlines(keepends=True):
-            word, name = line.split()[:2]
-            if name in own[word] or name not in other[word]:
-                kept.append(line)
-        return "".join(kept)
-
-    def upto(self, checksum):
-        return next(base[2] for base in self.bases if base[1] == checksum)
-
-    def is_whole(self, base, number):
-        return all(each in self.entries for each in range(self.upto(base) + 1, number + 1))
-
-
-def replayed(glb, log, base, last):
-    """By entry, the index and the text of the map that a server of a base has behind it."""
-    batches = [(number, log.handed(base, number)) for number in range(log.upto(base) + 1, last + 1)]
-    feed = "".join(f"{lines}commit\n" for _, lines in batches if lines)
-    with tempfile.TemporaryDirectory() as folder:
-        topology = Path(folder, "base.toml")
-        topology.write_bytes(log.memory[base])
-        done = subprocess.run(
-            [str(glb), "serve", str(topology), "--listen", "127.0.0.1:0"],
-            input=feed.encode(),
-            capture_output=True,
-            timeout=60,
-            check=False,
-        )
-    texts = [text + b"\nend\n" for text in done.stderr.split(b"\nend\n")[:-1]]
-    outcomes = [line for line in done.stdout.decode().splitlines() if not is_detail(line)]
-    if done.returncode or not texts:
-        raise Fault(f"the replay ended with {done.returncode}: {done.stderr[:200]!r}")
-    at, found = 0, {log.upto(base): (0, texts[0])}
-    for number, lines in batches:
-        if lines and outcomes.pop(0).startswith("published"):
-            at += 1
-        found[number] = at, texts[at]
-    return found
-
-
-def is_detail(line):
-    return line.startswith("refused ") and not line.startswith("refused commit")
-
-
 # Topologies.
 
 
-def topology_of(draw, salt):
-    """A small world whose pools are short; now and then a name more or less."""
+def topology_of(draw, salt, more=((), ())):
+    """A small world whose pools are short; now and then a name more or less. `more` are pools, with
+    their regions and capacities, and groups that each has."""
     lines = [
         "[zone]",
         'apex = "cdn.example"',
@@ -235,9 +74,14 @@ def topology_of(draw, salt):
             pools.append(name)
             lines += ["[[node]]", f'name = "{name}"', f'parent = "R{region}"', "pool = true"]
             lines += [f"capacity = {draw.randrange(5, 25)}", f'a = ["192.0.2.{len(pools)}"]']
-    for group in range(5 + draw.randrange(3)):
+    for name, parent, capacity in more[0]:
+        pools.append(name)
+        lines += ["[[node]]", f'name = "{name}"', f'parent = "{parent}"', "pool = true"]
+        lines += [f"capacity = {capacity}", f'a = ["192.0.2.{len(pools)}"]']
+    groups = [f"g{group}" for group in range(5 + draw.randrange(3))] + list(more[1])
+    for group, name in enumerate(groups):
         of = draw.sample(pools, draw.randrange(2, len(pools)))
-        lines += ["[[group]]", f'name = "g{group}"', f"demand = {draw.randrange(2, 20)}"]
+        lines += ["[[group]]", f'name = "{name}"', f"demand = {draw.randrange(2, 20)}"]
         lines += [f"pools = {json.dumps(of)}", f"scores = {[draw.randrange(1, 50) for _ in of]}"]
         prefixes = ["0.0.0.0/0", "::/0"] if group == 0 else [f"198.51.{100 + group}.0/24"]
         lines.append(f"prefixes = {json.dumps(prefixes)}")
@@ -307,6 +151,8 @@ class Hunt:
         self.is_over = threading.Event()
         self.undo, self.lock, self.rolled = [], threading.Lock(), []
         self.copies, self.is_mended, self.rolls_left = {}, False, 6
+        self.beside = Beside(self) if options.watch else None
+        self.actions = ACTIONS | (self.beside.actions() if self.beside else {})
 
     @property
     def is_tampered(self):
@@ -447,32 +293,51 @@ class Hunt:
     def run(self):
         etcd = self.etcd
         etcd.wait()
-        self.roll_one(topology_of(self.draw, f"{self.seed}.0"))
+        if self.beside:
+            self.beside.begin_record()
+        self.roll_one(self.topology("0"))
         for host in self.hosts:
             host.start()
         watcher = threading.Thread(target=self.watch, daemon=True)
         watcher.start()
         self.settle(20)
-        for _ in range(self.draw.randrange(5, 16)):
-            self.act()
+        if self.beside:
+            self.beside.begin()
+        due = self.beside.due() if self.beside else [None] * self.draw.randrange(5, 16)
+        for name in due:
+            self.act(name)
             time.sleep(self.draw.choice([0, 0.05, 0.2, 0.5, 1, 2, 3]))
             if self.found:
                 break
         self.mend()
-        status, words = self.settle(150 if not self.is_fast else 75)
+        seconds = 150 if not self.is_fast else 75
+        status, words = self.settle(seconds)
+        if self.beside and not self.found:
+            if words:
+                self.found.append(f"stuck: status {status}: {words}")
+            else:
+                self.found += self.beside.finish()
+                status, words = self.settle(seconds)
         self.is_over.set()
         watcher.join(30)
         if not self.found:
             self.check_end(status, words)
+        if self.beside:
+            self.found += self.beside.check_end()
 
-    def act(self):
-        names, weights = zip(*ACTIONS.items())
-        name = self.draw.choices(names, weights)[0]
+    def act(self, name=None):
+        if name is None:
+            names, weights = zip(*self.actions.items())
+            name = self.draw.choices(names, weights)[0]
         self.say(name)
         try:
-            getattr(self, name)()
+            getattr(self if hasattr(self, name) else self.beside, name)()
         except (OSError, Fault, ValueError, IndexError, subprocess.TimeoutExpired) as why:
             self.say(f"{name}: {why}")
+
+    def topology(self, salt):
+        more = self.beside.more if self.beside else ((), ())
+        return topology_of(self.draw, f"{self.seed}.{salt}", more)
 
     def roll_one(self, text, *words):
         path = self.fleet.folder / f"topology{len(self.rolled)}.toml"
@@ -484,6 +349,8 @@ class Hunt:
 
     def mend(self):
         self.say("mend")
+        if self.beside:
+            self.beside.mend()
         with self.lock:
             undo, self.undo = self.undo, []
         for each in reversed(undo):
@@ -516,7 +383,7 @@ class Hunt:
             # nothing is left of the log: a base begins another one
             with self.tampering():
                 self.delete("glb/bases")
-            self.roll_one(topology_of(self.draw, f"{self.seed}.anew"))
+            self.roll_one(self.topology("anew"))
             return
         upto = bases[-1][2]
         while numbers[-1] - numbers[0] > 100000:
@@ -608,6 +475,16 @@ class Hunt:
         }
         self.etcd.call("/v3/kv/put", message)
 
+    def put_new(self, key, octets):
+        """Puts a key that is not there: somebody may append meanwhile."""
+        name = base64.b64encode(key.encode()).decode()
+        value = base64.b64encode(octets).decode()
+        message = {
+            "compare": [{"key": name, "target": "MOD", "result": "EQUAL", "mod_revision": "0"}],
+            "success": [{"request_put": {"key": name, "value": value}}],
+        }
+        self.etcd.call("/v3/kv/txn", message)
+
     def delete(self, key):
         self.etcd.call("/v3/kv/deleterange", {"key": base64.b64encode(key.encode()).decode()})
 
@@ -648,7 +525,7 @@ class Hunt:
     def new_topology(self):
         if self.rolled and self.draw.random() < 0.2:
             return self.draw.choice(self.rolled).read_text()
-        return topology_of(self.draw, f"{self.seed}.{len(self.rolled)}")
+        return self.topology(len(self.rolled))
 
     def roll(self):
         self.roll_one(self.new_topology())
@@ -740,7 +617,7 @@ class Hunt:
 
     def raw(self):
         log = Log(Keys(self.etcd), self.memory)
-        self.put(f"glb/log/{log.last + 1:016d}", self.junk(log))
+        self.put_new(f"glb/log/{log.last + 1:016d}", self.junk(log))
 
     def raw_many(self):
         count = self.draw.choice([2, 3, 5, 8])
@@ -750,7 +627,8 @@ class Hunt:
     def raw_very_many(self):
         log = Log(Keys(self.etcd), self.memory)
         for number in range(log.last + 1, log.last + 1 + self.draw.choice([95, 101, 130, 230])):
-            self.put(f"glb/log/{number:016d}", self.draw.choice([b"stop\n", b"x", b"%d" % number]))
+            octets = self.draw.choice([b"stop\n", b"x", b"%d" % number])
+            self.put_new(f"glb/log/{number:016d}", octets)
 
     def take_last(self):
         log = Log(Keys(self.etcd), self.memory)
@@ -782,9 +660,8 @@ class Hunt:
             f"{log.last + 3:016d}",
             "0" * 16,
         ]
-        self.put(
-            f"glb/log/{self.draw.choice(names)}", self.draw.choice([b"x", log.entries[number]])
-        )
+        octets = self.draw.choice([b"x", log.entries[number]])
+        self.put_new(f"glb/log/{self.draw.choice(names)}", octets)
 
     def odd_other(self):
         """A key beside the log, put or taken away by hand."""
@@ -1060,10 +937,6 @@ class Hunt:
             )
 
 
-def is_number(name):
-    return len(name) == 16 and name.isdigit() and name.isascii()
-
-
 # By name, how likely each is.
 ACTIONS = {
     "append": 10,
@@ -1135,7 +1008,11 @@ def schedule(options, seed):
                 )
             except OSError:
                 pass
+        if hunt.beside:
+            hunt.beside.stop()
         hunt.fleet.stop()
+        if hunt.beside:
+            hunt.found += hunt.beside.left_behind()
     fast = ", fast" if hunt.is_fast else ""
     words = f"{hunt.members} members, {hunt.count} servers{fast}, {len(hunt.done)} steps"
     print(f"seed {seed}: {words}, {hunt.checks}, {time.monotonic() - began:.0f} s", flush=True)
@@ -1159,6 +1036,9 @@ def built(folder, name):
 def main():
     words = argparse.ArgumentParser(
         description=__doc__, formatter_class=argparse.RawDescriptionHelpFormatter
+    )
+    words.add_argument(
+        "--watch", action="store_true", help="glb-watch, glb-drain and Prometheus beside it all"
     )
     words.add_argument("--seconds", type=float, default=600)
     words.add_argument("--seed", type=int, default=1)

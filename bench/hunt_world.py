@@ -16,6 +16,7 @@ import sys
 import threading
 import time
 import urllib.request
+from dataclasses import dataclass
 from http.client import HTTPException
 from pathlib import Path
 
@@ -36,6 +37,10 @@ for key, value in {FAST_FOLLOWER!r}.items(): setattr(follower, key, value)
 from glb_tools.options import start
 start(name)
 """
+
+
+class Wrong(Exception):
+    """What the hunt is for."""
 
 
 def free_port():
@@ -435,6 +440,17 @@ class Host:
             subprocess.run(["umount", "-l", str(path)], check=False, capture_output=True)
 
 
+@dataclass
+class Begun:
+    """A command that was begun: with what, and where stands what it said."""
+
+    name: str
+    words: tuple[str, ...]
+    stdin: bytes
+    path: Path
+    process: subprocess.Popen[bytes]
+
+
 class Fleet:
     def __init__(self, folder, glb, shims, members, hosts, is_fast):
         self.folder, self.glb, self.shims, self.is_fast = folder, glb, shims, is_fast
@@ -442,7 +458,7 @@ class Fleet:
         self.etcd.start()
         self.hosts = [Host(self, number) for number in range(hosts)]
         self.own = [self.ways.make(member.client) for member in self.etcd.members]
-        self.children = []
+        self.children, self.begun = [], []
 
     @property
     def addresses(self):
@@ -450,22 +466,23 @@ class Fleet:
         return ",".join(f"http://127.0.0.1:{way.port}" for way in self.own)
 
     def begin(self, name, *words, stdin=b""):
-        """A command, in the background."""
+        """A command, in the background. What it says stands in a file of its own."""
         env = dict(os.environ, PYTHONPYCACHEPREFIX="/tmp/hunt-pyc")
-        log = open(self.folder / "commands.log", "ab")
-        log.write(f"-- {time.time():.2f} {name} {words} {stdin[:200]!r}\n".encode())
-        log.flush()
-        process = subprocess.Popen(
-            [*words_of(self.is_fast, name), "--etcd", self.addresses, *map(str, words)],
-            env=env,
-            stdin=subprocess.PIPE,
-            stdout=log,
-            stderr=log,
-        )
-        log.close()
+        path = self.folder / f"command{len(self.begun)}.{name}"
+        with open(self.folder / "commands.log", "a") as log:
+            log.write(f"{time.time():.2f} {path.name} {words} {stdin[:200]!r}\n")
+        with open(path, "wb") as log:
+            process = subprocess.Popen(
+                [*words_of(self.is_fast, name), "--etcd", self.addresses, *map(str, words)],
+                env=env,
+                stdin=subprocess.PIPE,
+                stdout=log,
+                stderr=log,
+            )
         process.stdin.write(stdin)
         process.stdin.close()
         self.children.append(process)
+        self.begun.append(Begun(name, tuple(map(str, words)), stdin, path, process))
         return process
 
     def command(self, name, *words, stdin=b"", seconds=40):
