@@ -48,10 +48,10 @@ class Question(threading.Thread):
                 return bytes(found)
 
 
-def words_of(why: Exception) -> str:
-    """The innermost reason: requests wraps it several times."""
-    while why.__cause__ or why.__context__:
-        why = why.__cause__ or why.__context__  # type: ignore[assignment]
+def words_of(why: BaseException) -> str:
+    """The innermost reason: requests wraps it several times. What somebody took out of the chain (`from None`) is none."""
+    while inner := why.__cause__ or (None if why.__suppress_context__ else why.__context__):
+        why = inner
     return " ".join(str(why).split())[:200]
 
 

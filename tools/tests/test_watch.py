@@ -6,6 +6,7 @@ import importlib.util
 import io
 import json
 import re
+import socket
 import subprocess
 import sys
 import threading
@@ -1343,6 +1344,21 @@ class Command(Case):
             asked.open[rule.place].join(2)
             self.assertFalse(asked.open[rule.place].is_alive())
             over.set()
+
+    def test_a_peer_that_hangs_up_is_told_as_such(self):
+        from glb_tools.watch_prometheus import Prometheus
+
+        def hangs_up(handler):
+            handler.connection.shutdown(socket.SHUT_RDWR)
+
+        with faked(d=hangs_up) as server:
+            asked = Prometheus(f"http://127.0.0.1:{server.server_port}", 2)
+            (rule,) = settings(DEMANDS).rules
+            rule = dataclasses.replace(rule, query="d")
+            fault = asked.ask({rule.place: (rule, {"g1"})})[rule.place].fault
+            # urllib3 tries an argument first that Python 3 does not have: that is no reason
+            self.assertNotIn("argument", fault)
+            self.assertIn("closed connection", fault)
 
     def test_refused_at_the_start(self):
         with faked() as server:
