@@ -45,6 +45,8 @@ from glb_tools.etcd import Etcd as ToolsEtcd  # noqa: E402
 from glb_tools.options import Fault  # noqa: E402
 
 DROPPED = "was dropped whole"
+# how long it is between what befalls a fleet, in seconds
+PAUSES = [0, 0.05, 0.2, 0.5, 1, 2, 3]
 
 
 # Topologies.
@@ -306,7 +308,7 @@ class Hunt:
         due = self.beside.due() if self.beside else [None] * self.draw.randrange(5, 16)
         for name in due:
             self.act(name)
-            time.sleep(self.draw.choice([0, 0.05, 0.2, 0.5, 1, 2, 3]))
+            time.sleep(self.draw.choice(PAUSES + [3, 5] * bool(self.beside)))
             if self.found:
                 break
         self.mend()
@@ -1052,16 +1054,19 @@ def main():
     options.folder = Path(tempfile.mkdtemp(prefix="fleet-hunt-"))
     options.shims = {name: built(options.folder, name) for name in ("told_maps", "shift_clock")}
     end, seed, faults, checks = time.monotonic() + options.seconds, options.seed, 0, {}
-    count = 0
+    count = steps = 0
     while time.monotonic() < end:
         hunt = schedule(options, seed)
         count, seed, faults = count + 1, seed + options.step, faults + bool(hunt.found)
+        steps += len(hunt.done)
         for key, value in hunt.checks.items():
-            checks[key] = checks.get(key, 0) + value
+            before = checks.get(key, 0)
+            checks[key] = max(before, value) if key == "slowest" else before + value
         if options.one:
             break
     print(
-        f"{count} schedules, {faults} with a fault; compared: {checks}; folders: {options.folder}"
+        f"{count} schedules of {steps} steps, {faults} with a fault; compared: {checks};"
+        f" folders: {options.folder}"
     )
     return 1 if faults else 0
 

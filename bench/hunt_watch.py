@@ -158,6 +158,7 @@ class Beside:
         self.demands = {name: draw.randrange(5, 15) for name in GROUPS}
         self.excused = 0
         hunt.checks |= {"lines": 0, "steps": 0, "ends": 0, "said": 0, "back": 0, "slowest": 0}
+        hunt.checks["unfailed"] = 0
 
     @staticmethod
     def names() -> set[Name]:
@@ -307,12 +308,20 @@ dead_band = 0
             return "" if number in news else f"and {sorted(news)} were measured"
         news = {round(value * self.units) for value in values}
         top = max(news, default=0)
+        if number < old and number in news and not self.has_failed(name):
+            # Prometheus itself stood still, or had no time to ask
+            self.hunt.checks["unfailed"] += 1
+            self.hunt.say(f"{name} went from {old} to {number}, and none of its machines failed")
         is_due = (
             number in news
             or (number == drained and bool(top))
             or old < number <= (top if drained is None else drained if top else 0)
         )
         return "" if is_due else f"and {sorted(news)} were measured"
+
+    def has_failed(self, pool: str) -> bool:
+        """Whether any machine of a pool has failed in this schedule, by its own record."""
+        return any(machine.faults for machine in self.machines[pool])
 
     # What befalls machines and Prometheus.
 
