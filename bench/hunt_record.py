@@ -248,7 +248,8 @@ class Record(threading.Thread):
         if number - 1 in self.entries:
             before = digest(self.entries[number - 1])
         found = content_of(octets, before)
-        if not found:
+        is_behind_a_gap = number - 1 not in self.entries and min(self.entries) < number
+        if not found or is_behind_a_gap:
             seen = Seen(number, octets, "none")
         else:
             told = json.loads(octets)

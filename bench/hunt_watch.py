@@ -35,6 +35,10 @@ POOLS, STEADY, GROUPS = ("W0", "W1", "W2", "W3"), "W3", ("v0", "v1", "v2")
 # in how many seconds all is to be as measured behind the last fault: a node stays out for eight at
 # most where it flapped, is seen well twice, fills in two looks, and another glb-watch may have to lead
 BACK = 45
+# how long a command is waited for behind the faults, in seconds
+WAITS = 120
+# how long the start of a command takes at most on a busy machine, in seconds
+BEGINS = 20
 # how long a process may live on that a command began which was killed, in seconds
 ENDS = 10
 SAID = re.compile(r"(?:^|; )((?:demand|capacity) \S+ \d+) \(")
@@ -87,8 +91,8 @@ class Kept:
         self.name, self.words, self.draw = name, words, Random(seed)
         self.path = folder / f"{name}.log"
         self.process: subprocess.Popen[bytes] | None = None
-        # the statuses with which it ended
-        self.ended: list[int] = []
+        # the statuses with which it ended, and how many seconds it had lived
+        self.ended: list[tuple[int, float]] = []
         self.is_over = False
         self.thread = threading.Thread(target=self.go_on, daemon=True)
         self.thread.start()
@@ -102,7 +106,8 @@ class Kept:
                 self.process = subprocess.Popen(
                     self.words, env=env, stdin=subprocess.DEVNULL, stdout=log, stderr=log
                 )
-            self.ended.append(self.process.wait())
+            began = time.monotonic()
+            self.ended.append((self.process.wait(), time.monotonic() - began))
             if not self.is_over:
                 time.sleep(self.draw.uniform(0.2, 3))
 
@@ -533,10 +538,12 @@ dead_band = 0
                 self.hunt.delete(key)
                 continue
             words = ("--every", "1s", "--anyway", "--glb", self.fleet.glb)
-            status = self.fleet.command("drain", node, "--back", "--over", "2s", *words, seconds=90)
+            status = self.fleet.command(
+                "drain", node, "--back", "--over", "2s", *words, seconds=WAITS
+            )
             told = self.fleet.begun[-1].path.read_text()
             if status == 5 and "more than the" in told:
-                status = self.fleet.command("drain", node, "--forget")
+                status = self.fleet.command("drain", node, "--forget", seconds=WAITS)
             elif status == 5:
                 # a command of before made a step meanwhile: it is said again
                 continue
@@ -547,7 +554,8 @@ dead_band = 0
     def hand_all_back(self) -> list[str]:
         for _ in range(8):
             path = self.fleet.folder / "watch.toml"
-            status = self.fleet.command("watch", path, *handed(["W*", "v*"]))
+            words = handed(["W*", "v*"])
+            status = self.fleet.command("watch", path, *words, seconds=WAITS)
             told = self.fleet.begun[-1].path.read_text()
             if status == 0 or "none of these names was set" in told:
                 return []
@@ -683,9 +691,11 @@ dead_band = 0
             name = kept.name.rstrip("01")
             if name == "prometheus":
                 continue
-            wrong = [each for each in kept.ended if each not in {*statuses_of(name), *ENDED}]
-            if wrong or (name == "watch" and -signal.SIGTERM in kept.ended):
-                found.append(f"{kept.name} ended with {kept.ended}")
+            for status, seconds in kept.ended:
+                # ahead of its first line of its own a command ends by the signal
+                is_rough = name == "watch" and status == -signal.SIGTERM and seconds > BEGINS
+                if is_rough or status not in {*statuses_of(name), *ENDED}:
+                    found.append(f"{kept.name} ended with {status} behind {seconds:.0f} s")
         for path in self.fleet.folder.rglob("*"):
             is_told = path.suffix == ".log" or path.name.startswith("command")
             if is_told and path.is_file() and not path.name.startswith(("etcd", "prometheus")):
