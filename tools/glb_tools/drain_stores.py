@@ -16,7 +16,7 @@ from glb_tools.loads import STOP, split_at_commits
 from glb_tools.log import BASE, BATCH, Log, Look, Signed
 from glb_tools.options import Fault, read_file, write_file
 from glb_tools.plan import REFUSED, Served, served_at, served_by_log
-from glb_tools.precedence import HANDED_BACK, author_of
+from glb_tools.precedence import HANDED_BACK, author_of, hands_kept
 from glb_tools.text import Replay
 from glb_tools.topology import Topology, written
 
@@ -106,7 +106,8 @@ class Fleet:
         return self.setters_at(self.log.look(), node).author
 
     def setters_at(self, look: Look, node: str) -> Setters:
-        found = Setters(node)
+        # whose entry was cut away stands beside the log
+        found = Setters(node, hands_kept(self.log).get(("capacity", node), ""))
         for entry in self.log.entries(look.begins, look.last):
             if entry.kind == BATCH:
                 found.take(entry.lines, author_of(entry.author, entry.why))

@@ -19,7 +19,7 @@ from glb_tools.file_log import OWN, author_of_line, locked, own_line
 from glb_tools.history import handed, topology_of
 from glb_tools.log import BATCH, PIECE, Base, Entry, Log, Look, Signed, without_base
 from glb_tools.options import Fault, read_file
-from glb_tools.precedence import AUTHOR, author_of, is_by_hand
+from glb_tools.precedence import AUTHOR, author_of, hands_kept, is_by_hand
 from glb_tools.text import Change, Replay, lines_of
 from glb_tools.topology import Topology
 from glb_tools.watch_rules import CAPACITY, DEMAND, Name
@@ -282,6 +282,9 @@ class FleetLog:
         base = look.newest
         if base is None:
             raise Fault(without_base(look))
+        if not look.entries:
+            # they were deleted by hand
+            raise Fault("the log is empty")
         is_anew = self.served is None or self.is_another(look)
         if is_anew or base != self.base:
             topology = Topology(topology_of(self.log, base), str(base))
@@ -300,17 +303,11 @@ class FleetLog:
         return self.served
 
     def recall(self) -> None:
-        """Who set which numbers by hand, as one that led kept it: a cut takes their entries away."""
+        """Who set which numbers by hand, as one that led kept it."""
         assert self.served
         self.remembered = ""
-        item = self.log.etcd.get(self.log.at("hand"))
-        try:
-            told = json.loads(item.octets) if item else []
-            authors = {(str(word), str(name)): str(who) for word, name, who in told}
-        except (ValueError, TypeError, RecursionError):
-            return
         self.served.authors |= {
-            name: who for name, who in authors.items() if name in self.served.numbers
+            name: who for name, who in hands_kept(self.log).items() if name in self.served.numbers
         }
 
     def remember(self) -> None:

@@ -19,6 +19,7 @@ from glb_tools.log import Base, Log, Names, Signed, checksum_of
 from glb_tools.plan import Served
 from glb_tools.text import Replay
 from glb_tools.topology import Topology, written
+from glb_tools.watch_logs import FleetLog
 from samples import Case
 
 ZONE = """
@@ -994,6 +995,18 @@ class OverFleet(Played):
         self.assertEqual(
             [lines for lines, *_ in self.batches()[-2:]], ["capacity a 20\n", "capacity a 0\n"]
         )
+
+    def test_a_number_by_hand_is_by_hand_behind_a_cut_and_a_drain(self):
+        self.log.append("x", Signed("hand"), "capacity a 50\n", lambda names: None)
+        watch = FleetLog(self.log, 15)
+        watch.read()
+        self.roll(WORLD)
+        self.log.cut(self.log.look(), self.log.newest_base())
+        self.assertEqual(self.batches(), [])
+        self.assertEqual(self.drain("a")[0], 0)
+        self.assertEqual(self.drain("a", "--back")[0], 0)
+        self.assertEqual(self.batches()[-1], ("capacity a 50\n", "ops", "drain a back 2/2: works"))
+        self.assertEqual(watch.read().by_hand, {("capacity", "a"): "ops"})
 
     def test_the_node_goes_while_a_step_is_worked(self):
         gone, rolled = WORLD.replace('"a"', '"d"'), []

@@ -24,7 +24,7 @@ from samples import EXAMPLES, SMALL, TOOLS, TOP, Case
 
 from glb_tools import watch, watch_logs
 from glb_tools.drains import Drain
-from glb_tools.etcd import put
+from glb_tools.etcd import delete, put
 from glb_tools.file_log import locked
 from glb_tools.log import Log, Names, Signed, checksum_of
 from glb_tools.options import Fault
@@ -1058,6 +1058,14 @@ class Fleets(Case):
             served = each.read()
             self.assertEqual(served.numbers["capacity", "A"], 3)
             self.assertEqual(served.by_hand, {("capacity", "A"): "ops"})
+
+    def test_a_log_whose_entries_were_deleted_by_hand(self):
+        log = FleetLog(self.log)
+        log.read()
+        self.world.table.txn([delete(self.log.key(1))], [])
+        for each in (log, FleetLog(self.log, 15)):
+            with self.assertRaisesRegex(Fault, "the log is empty"):
+                each.read()
 
     def test_an_answer_that_was_lost(self):
         """Whatever call is lost on the way: the batch is there once, or a next look asks for it again."""
