@@ -9,6 +9,7 @@ docs/operating/out-of-service.md, docs/operating/prometheus.md and docs/DECISION
 - it sets a drained node to 0 where that is down, and else to nothing above the drain's number;
 - each number that it sets was measured: it follows from an answer that it was given just before;
 - a drain keeps the capacity of before, goes one way, and ends with the capacity of before;
+- behind a drain a number is by hand, or measured, as it was before;
 - a drain goes on from the number of its own last step, or from one to which glb-watch lowered it.
 """
 
@@ -122,6 +123,8 @@ class Record(threading.Thread):
         self.bases = b"[]"
         self.drains: dict[str, dict[str, Any]] = {}
         self.state = Numbers()
+        # the drained nodes whose number of before was set by hand
+        self.by_hand: set[str] = set()
         # whether the numbers are known; and how often what was put between two looks is not
         self.is_known, self.gaps = False, 0
         self.revision, self.restores, self.turn = 0, 0, 0
@@ -360,6 +363,9 @@ class Record(threading.Thread):
             self.wrong(f"{where}: its capacity of before was {was['before']}: {now['before']}")
         if now and not was and old and not is_back and now["before"] != old:
             self.wrong(f"{where}: its capacity of before was {old}, and {now['before']} is kept")
+        if now and not was:
+            self.by_hand.discard(node)
+            self.by_hand |= {node} if self.is_by_hand(key, None) else set()
         if now and was and now["run"] == was["run"] and old != was["to"]:
             is_lowered = old < was["to"] and not self.state.authors.get(key)
             if not is_lowered:
@@ -369,3 +375,7 @@ class Record(threading.Thread):
             self.counts["ends"] += 1
             if number != was["before"]:
                 self.wrong(f"{where}: it ends, and the capacity of before was {was['before']}")
+            is_handed, was_by_hand = seen.why.startswith(HANDED_BACK), node in self.by_hand
+            if is_handed == was_by_hand and not self.hunt.restores:
+                whose = "by hand" if was_by_hand else "measured"
+                self.wrong(f"{where}: its number of before was {whose}")
