@@ -14,6 +14,7 @@ from glb_tools.etcd import ETCD_STATUSES, NO_MAJORITY, Full, Unreachable, add_et
 from glb_tools.history import with_numbers
 from glb_tools.log import LARGEST_BATCH, Log, Look, Signed
 from glb_tools.options import DONE, FAULT, Fault, Progress, check_word, parser, run
+from glb_tools.precedence import keep_hands
 from glb_tools.text import MOST_CHANGES, Names, Refused, Replay, lines_of, words_of
 
 DROPPED = 2
@@ -113,6 +114,7 @@ def cut(log: Log) -> int:
         at = look.states.get(name, look.servers.get(name, {})).get("base", "")
         if not at or not base.checksum.startswith(at):
             raise Fault(f"{name} is not at {base} yet, and needs what would be cut (glb-fleet)")
+    keep_hands(log, look, base.upto)
     return log.cut(look, base)
 
 

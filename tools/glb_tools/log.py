@@ -13,7 +13,7 @@
     PREFIX/roll                   who rolls which base, as long as glb-roll lives (60 s)
     PREFIX/drain/NODE             a node that glb-drain takes out of service, or back, and its capacity of before
     PREFIX/watch                  which glb-watch leads, as long as it lives
-    PREFIX/hand                   who set which numbers by hand, as the glb-watch that leads found it
+    PREFIX/hand                   who set which numbers by hand, as the glb-watch that leads found it, or who cut the log
 
 **An entry** is a text of JSON: `kind` (`batch` or `base`), `before`, `time` (seconds since 1970), `author`, `why`, `id` (of
 its append), and of a batch `lines`, of a base `base`, `upto` and `chain`. Its checksum is the SHA-256 of its octets. `before` is the checksum

@@ -5,7 +5,6 @@ is in a file. Beside either stands which drains are on.
 """
 
 import fcntl
-import json
 import os
 import socket
 import uuid
@@ -14,12 +13,12 @@ from typing import IO, Protocol
 from glb_tools import drains
 from glb_tools.append import check
 from glb_tools.drains import Drain
-from glb_tools.etcd import Unreachable, is_at, put
+from glb_tools.etcd import Message, Unreachable, is_at, put
 from glb_tools.file_log import OWN, author_of_line, locked, own_line
 from glb_tools.history import handed, topology_of
-from glb_tools.log import BATCH, PIECE, Base, Entry, Log, Look, Signed, without_base
+from glb_tools.log import BATCH, Base, Entry, Log, Look, Signed, without_base
 from glb_tools.options import Fault, read_file
-from glb_tools.precedence import AUTHOR, author_of, hands_kept, is_by_hand
+from glb_tools.precedence import AUTHOR, author_of, hands_kept, hands_put, is_by_hand
 from glb_tools.text import Change, Replay, lines_of
 from glb_tools.topology import Topology
 from glb_tools.watch_rules import CAPACITY, DEMAND, Name
@@ -250,7 +249,7 @@ class FleetLog:
         self.look: Look | None = None
         self.chain, self.next = "", 0
         # what was kept last of who set numbers by hand
-        self.remembered = ""
+        self.remembered: list[Message] = []
 
     def lead(self) -> None:
         etcd, key = self.log.etcd, self.log.at("watch")
@@ -303,21 +302,20 @@ class FleetLog:
         return self.served
 
     def recall(self) -> None:
-        """Who set which numbers by hand, as one that led kept it."""
+        """Who set which numbers by hand, as one that led kept it, or a cut."""
         assert self.served
-        self.remembered = ""
+        self.remembered = []
         self.served.authors |= {
             name: who for name, who in hands_kept(self.log).items() if name in self.served.numbers
         }
 
     def remember(self) -> None:
         assert self.served
-        authors = sorted(self.served.authors.items())
-        octets = json.dumps([[*name, who] for name, who in authors])
-        if octets != self.remembered and len(octets) <= PIECE:
+        parts = hands_put(self.log, self.served.authors)
+        if parts and parts != self.remembered:
             leads = [is_at(self.log.at("watch"), self.leads_since)]
-            if self.log.etcd.txn([put(self.log.at("hand"), octets)], leads).held:
-                self.remembered = octets
+            if self.log.etcd.txn(parts, leads).held:
+                self.remembered = parts
 
     def looked(self) -> tuple[Look, list[tuple[str, bytes]]]:
         """The log, and the drains that are on at that moment: a step puts both at once."""

@@ -22,9 +22,9 @@ from urllib.parse import parse_qs
 from fleet_world import Client, Outside, Table
 from samples import EXAMPLES, SMALL, TOOLS, TOP, Case
 
-from glb_tools import watch, watch_logs
+from glb_tools import append, watch, watch_logs
 from glb_tools.drains import Drain
-from glb_tools.etcd import delete, put
+from glb_tools.etcd import Full, delete, encoded, put
 from glb_tools.file_log import locked
 from glb_tools.log import Log, Names, Signed, checksum_of
 from glb_tools.options import Fault
@@ -1153,6 +1153,35 @@ class Fleets(Case):
         log.read()
         log.end()
         self.assertEqual(FleetLog(self.log).read().by_hand, {("capacity", "B"): "ops"})
+
+    def test_by_hand_outlives_a_cut_while_no_glb_watch_leads(self):
+        first = FleetLog(self.log, 15)
+        self.by("ops", "capacity B 4\n")
+        first.read()
+        first.end()
+        self.by("ops", "capacity A 3\ndemand g1 7\n")
+        self.log.append("back", Signed("x", "handed back"), "demand g1 7\n", lambda names: None)
+        self.log.append("back B", Signed(AUTHOR), "capacity B 10\n", lambda names: None)
+        self.by("others", "capacity B 9\n")
+        self.base(SMALL, self.log.look().last)
+        self.by("ops", "demand g2 3\n")
+        due = {("capacity", "A"): "ops", ("capacity", "B"): "others", ("demand", "g2"): "ops"}
+        for _ in range(2):
+            self.assertEqual(append.cut(self.log), 6)
+            self.assertEqual(FleetLog(self.log).read().by_hand, due)
+        # it is told where it cannot be kept, and cut all the same
+        self.base(SMALL, self.log.look().last)
+        txn = self.log.etcd.txn
+
+        def full(parts, conditions=None):
+            if any(part.get("request_put", {}).get("key") == encoded("glb/hand") for part in parts):
+                raise Full("no space")
+            return txn(parts, conditions)
+
+        said = io.StringIO()
+        with mock.patch.object(self.log.etcd, "txn", full), contextlib.redirect_stderr(said):
+            self.assertEqual(append.cut(self.log), self.log.newest_base().upto)
+        self.assertIn("etcd is full", said.getvalue())
 
     def test_what_is_kept_of_hands_is_nonsense_or_of_names_that_went(self):
         for text in ("{", "[1]", "[[1, 2]]", '[["capacity", "Z", "ops"]]', "\0"):
