@@ -52,7 +52,7 @@ ON_THE_LOG |= {"odd_other", "restore", "restore_and_write", "meddle", "by_hand",
 # those that each schedule has
 ALWAYS = ["drain", "drain_for", "drain_killed", "drain_again", "drain_back", "roll_beside"]
 ALWAYS += ["machines_fail", "pool_fails", "watch_killed", "watch_held", "prometheus_killed"]
-ALWAYS += ["prometheus_held", "append_killed"]
+ALWAYS += ["prometheus_held", "hand_sets", "append_killed"]
 # by name, how likely each is
 ACTIONS = {
     "machines_fail": 8,
