@@ -1018,6 +1018,8 @@ def schedule(options, seed):
     fast = ", fast" if hunt.is_fast else ""
     words = f"{hunt.members} members, {hunt.count} servers{fast}, {len(hunt.done)} steps"
     print(f"seed {seed}: {words}, {hunt.checks}, {time.monotonic() - began:.0f} s", flush=True)
+    for words in hunt.beside.notes if hunt.beside else ():
+        print(f"   {words}", flush=True)
     for why in hunt.found:
         print(f"!! seed {seed}: {why}\n   {'; '.join(hunt.done)}", flush=True)
     if hunt.found:

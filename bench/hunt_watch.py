@@ -162,6 +162,8 @@ class Beside:
         self.ways = [self.fleet.ways.make(member.client) for member in self.fleet.etcd.members]
         self.demands = {name: draw.randrange(5, 15) for name in GROUPS}
         self.excused = 0
+        # what is told, and is no fault
+        self.notes: list[str] = []
         hunt.checks |= {"lines": 0, "steps": 0, "ends": 0, "said": 0, "back": 0, "slowest": 0}
         hunt.checks["unfailed"] = 0
 
@@ -316,7 +318,8 @@ dead_band = 0
         if number < old and number in news and not self.has_failed(name):
             # Prometheus itself stood still, or had no time to ask
             self.hunt.checks["unfailed"] += 1
-            self.hunt.say(f"{name} went from {old} to {number}, and none of its machines failed")
+            told = f"{name} went from {old} to {number}, as Prometheus said, and no machine failed"
+            self.notes.append(f"{moment} {told}: {self.hunt.done[-4:]}")
         is_due = (
             number in news
             or (number == drained and bool(top))
