@@ -315,7 +315,7 @@ dead_band = 0
             return "" if number in news else f"and {sorted(news)} were measured"
         news = {round(value * self.units) for value in values}
         top = max(news, default=0)
-        if number < old and number in news and not self.has_failed(name):
+        if number < min(old, self.units) and number in news and not self.has_failed(name):
             # Prometheus itself stood still, or had no time to ask
             self.hunt.checks["unfailed"] += 1
             told = f"{name} went from {old} to {number}, as Prometheus said, and no machine failed"
