@@ -25,7 +25,7 @@ for groups in 500 65536; do
         python3 "$here/asks.py" "$work/topology" 1000 "$subnets" >"$work/feed"
         profile "$glb" serve "$work/topology" --listen 127.0.0.1:0 <"$work/feed"
         printf '%d groups of four prefixes, client subnets %d:\n' "$groups" "$subnets"
-        python3 "$here/calls.py" "$work/profile" '^prefix_lookup::lookup::Lookup::' '^answer_core::' | head -12
+        python3 "$here/calls.py" "$work/profile" '^prefix_lookup::' '^answer_core::' | head -12
         for count in 200000 400000; do python3 "$here/asks.py" "$work/topology" "$count" "$subnets" >"$work/feed$count"; done
         less=$(user "$work/feed200000")
         more=$(user "$work/feed400000")
