@@ -189,13 +189,12 @@ class Judge:
     def is_alike(self, message: bytes, reply: bytes, by_tcp: bool) -> bool:
         """The same code, question, and number of answers as of the first map, but that a datagram may leave them out."""
         wanted = b"\0\0" + min(self.due(message, 0, by_tcp) or {bytes(10)})
-        question = message[12 : message.index(b"\0", 12) + 5].lower()
+        if len(reply) < 12 or reply[3] & 15 != wanted[3] & 15:
+            return False
+        question = message[12 : message.find(b"\0", 12) + 5].lower() if wanted[5] else b""
         is_short = not by_tcp and reply[2] & 2 != 0
-        return (
-            len(reply) >= 12
-            and reply[3] & 15 == wanted[3] & 15
-            and reply[12 : 12 + len(question)].lower() == question
-            and (is_short or reply[6:8] == wanted[6:8])
+        return reply[12 : 12 + len(question)].lower() == question and (
+            is_short or reply[6:8] == wanted[6:8]
         )
 
 
@@ -329,7 +328,6 @@ class Honest:
 
     def by_connection(self, phase: int, message: bytes, _: Any) -> None:
         begin = time.monotonic_ns()
-        pause = 0.03 if self.rng.randrange(4) == 0 else 0.0
         with bound(self.source) as client:
             client.settimeout(DEADLINE)
             try:
@@ -342,12 +340,16 @@ class Honest:
                     f"{message.hex()} {why}",
                 )
                 return
-            # some ask a little behind their handshake, as over a far network
-            time.sleep(pause)
+            # some ask a little behind their handshake, as over a far network: that pause is none of the server's
+            pause = 0
+            if self.rng.randrange(4) == 0:
+                before = time.monotonic_ns()
+                time.sleep(0.03)
+                pause = time.monotonic_ns() - before
             fate, what = self.asked_over(client, message, begin)
             if fate == CLOSED and self.sent_at - begin >= OWED:
                 fate = GAVE_WAY
-            self.kept.take(phase, begin, fate, what)
+            self.kept.take(phase, begin + pause, fate, what)
 
     def asked_over(self, client: socket.socket, message: bytes, begin: int) -> tuple[int, str]:
         """What becomes of a question in a conversation."""
@@ -441,6 +443,8 @@ class Client:
         self.crowd, self.socket = crowd, bound(source)
         self.loop = asyncio.get_running_loop()
         self.held, self.ended = bytearray(), False
+        # of a client of a crowd: when it began to connect, and when it had asked
+        self.came, self.had_asked = 0, 0
         self.due: dict[bytes, tuple[int, bytes]] = {}
         if buffer:
             self.socket.setsockopt(socket.SOL_SOCKET, socket.SO_RCVBUF, buffer)
@@ -496,10 +500,14 @@ class Client:
         self.ended = True
         if self.due:
             begin, message = next(iter(self.due.values()))
+            # one that asked late may have given way to another address
+            is_late = self.came > 0 and (self.had_asked or time.monotonic_ns()) - self.came >= OWED
+            what = FATES[GAVE_WAY] if is_late else "closed"
             self.crowd.note(
-                "closed", f"{len(self.due)} due, the first {message.hex()} asked at {begin} ns"
+                what,
+                f"{len(self.due)} due, the first {message.hex()} asked at {begin} ns, came at {self.came}",
             )
-            self.crowd.count["closed"] += len(self.due) - 1
+            self.crowd.count[what] += len(self.due) - 1
             self.due.clear()
 
     async def hear(self, seconds: float, most: int = 65536) -> bool:
@@ -782,10 +790,12 @@ async def crowding(crowd: Crowd, clients: int, addresses: int, net: int) -> None
         held = []
         for number in range(clients):
             client = Client(crowd, source_of(net, number % addresses))
+            client.came = time.monotonic_ns()
             try:
                 client.connect_at_once()
                 held.append(client)
                 await client.ask(crowd.question())
+                client.had_asked = time.monotonic_ns()
             except Gone:
                 pass
         await asyncio.gather(*(client.take() for client in held))

@@ -3,7 +3,7 @@
 
     apt-get update
     apt-get install nsd
-    bench/crowds_beside.py [--minutes N] [--seed N] [--json] [--progress] [--spoil WHAT]
+    bench/crowds_beside.py [--minutes N] [--phase SECONDS] [--seed N] [--json] [--progress] [--spoil WHAT]
 
 Both servers stand on loopback, each at an address of its own, and have the same names. glb has two workers, one more for
 TCP, and a feed that moves all clients to another pool and back each second. NSD has two processes with 128 connections
@@ -18,10 +18,11 @@ Of glb has to hold, else the status is 1: each reply is octet for octet what sec
 that was written by hand. No datagram of an honest client is unanswered. A connection that asks within a tenth of a second
 is answered, and so are the hostile clients that do nothing for which docs/operating/limits.md lets glb close. Beyond
 what it had at the begin the server has no descriptor and no thread at the end, at most 4,096 KiB of memory more than at
-the begin, and 512 KiB more than behind the first round. It is never above 256 connections. At the end it answers those
-who asked, beside others that said nothing or half a message, and ends with status 0. What NSD does decides nothing.
+the begin, and 512 KiB more than behind the first round. It never holds more than 256 connections, and the one that is
+about to have a place. At the end it answers those who asked, beside others that said nothing or half a message, and ends
+with status 0. What NSD does decides nothing.
 
---spoil lets something be wrong, and the status has to be 1:
+--spoil lets something be wrong in the first three phases, and the status has to be 1:
 
     answer    the map by which replies are judged has another pool
     lost      an honest client by datagrams throws one reply away
@@ -29,7 +30,7 @@ who asked, beside others that said nothing or half a message, and ends with stat
     closed    an honest client's conversation is shut down
     stopped   the server stands still for eight seconds (SIGSTOP)
     killed    SIGTERM in place of the feed's end
-    grown     the server is said to have had a descriptor and a MiB fewer at the begin
+    grown     the server is said to have had a descriptor and 4,096 KiB fewer at the begin
 
 GLB names the program, the built one if it is not set. Statuses: 0 all as due, 1 something differs, 2 bad words, 3 a
 program is not there or did not answer. With --json all figures are written as one JSON document.
@@ -53,6 +54,7 @@ from pathlib import Path
 from typing import Any, NoReturn
 
 import crowd_clients
+import second
 from crowd_clients import (
     CHANGES,
     CLOSED,
@@ -98,7 +100,8 @@ zone:
 """
 SERVERS = ["glb", "NSD"]
 SPOILS = ["answer", "lost", "number", "closed", "stopped", "killed", "grown"]
-# how many connections glb holds, and by how many KiB its memory may grow from the begin, and from the end of the first round
+# how many connections glb holds (and for a moment the one that is to have the place of another), and by how many KiB its
+# memory may grow from the begin, and from the end of the first round
 HELD, GROWTH, LATER_GROWTH = 256, 4096, 512
 # honest clients have so many connections at most, of which one may be on its way out
 HONEST = 3
@@ -283,8 +286,11 @@ class Run:
     def __init__(self, options: argparse.Namespace, servers: list[Running]) -> None:
         self.options, self.servers, self.shared = options, servers, Shared()
         self.faults: list[str] = []
+        # where something is spoilt a few phases tell
+        self.numbers = range(len(PHASES))[: 3 if options.spoil else None]
         maps = [MAPS[1], MAPS[1]] if options.spoil == "answer" else MAPS
-        self.workers, self.honest = [], []
+        self.workers: list[tuple[Any, Any]] = []
+        self.honest: list[tuple[int, Any, Any]] = []
         for process in range(2):
             here, there = multiprocessing.Pipe()
             self.workers.append(
@@ -327,7 +333,7 @@ class Run:
             process_.start()
         self.feed = Feed(servers[0], self.shared)
         self.feed.start()
-        self.phases = [
+        self.phases: list[list[dict[str, Any]]] = [
             [{"counts": Counter(), "most": 0, "processor": 0.0, "seconds": 0.0} for _ in SERVERS]
             for _ in PHASES
         ]
@@ -383,23 +389,28 @@ class Run:
             self.faults.append(f"{held} connections behind {PHASES[phase][0]}")
 
     def rounds(self) -> None:
+        """One round after the other, as many as the time is enough for, and one at least."""
         total = self.options.minutes * 60
-        turns = len(PHASES) * len(SERVERS)
-        count = max(1, round(total / (turns * (PHASE + REST))))
-        each = total / (count * turns)
+        each = min(self.options.phase + REST, total / (len(self.numbers) * len(SERVERS)))
         rest = min(REST, each / 5)
-        for round_ in range(count):
-            for phase in range(len(PHASES)):
+        begin, round_, longest = time.monotonic(), 0, 0.0
+        while round_ == 0 or time.monotonic() - begin + longest <= total:
+            start = time.monotonic()
+            for phase in self.numbers:
                 for server in [0, 1] if round_ % 2 == 0 else [1, 0]:
-                    self.let(phase, server, f"{self.options.seed} {round_} {phase}", each - rest)
+                    seed = f"{self.options.seed} {round_} {phase}"
+                    self.let(phase, server, seed, each - rest)
                     self.rest(server, rest, phase)
-                    if self.servers[server].process.poll() is not None:
+                    status = self.servers[server].process.poll()
+                    if status is not None:
                         self.faults.append(
-                            f"{SERVERS[server]} ended with {self.servers[server].process.returncode} in {PHASES[phase][0]}"
+                            f"{SERVERS[server]} ended with {status} in {PHASES[phase][0]}"
                         )
                         return
             for server in (0, 1):
                 self.behind[server].append(self.servers[server].sizes())
+            round_ += 1
+            longest = max(longest, time.monotonic() - start)
 
     def end(self) -> None:
         """The clients go, the sizes are looked at, and glb ends beside connections that say nothing and others that asked."""
@@ -492,7 +503,7 @@ class Run:
                     faults.append(
                         f"{name}: {counts[what]} {what}: {[one for one in first if one.startswith(what)][:2]}"
                     )
-            if told[0]["most"] - self.first[0]["descriptors"] > HELD:
+            if told[0]["most"] - self.first[0]["descriptors"] > HELD + 1:
                 faults.append(f"{name}: {told[0]['most']} descriptors")
         for kind, kept in self.kept[0].items():
             fates = Counter(kept.fates)
@@ -520,8 +531,9 @@ class Run:
     def figures(self) -> dict[str, Any]:
         """All that was counted and measured."""
         phases = []
-        for number, (name, told) in enumerate(zip(PHASES, self.phases)):
-            of_servers = {}
+        for number in self.numbers:
+            name, told = PHASES[number], self.phases[number]
+            of_servers: dict[str, Any] = {}
             for server, label in enumerate(SERVERS):
                 one = told[server]
                 of_servers[label] = {
@@ -535,7 +547,7 @@ class Run:
                     },
                 }
             phases.append({"phase": name[0], **of_servers})
-        whole = {}
+        whole: dict[str, Any] = {}
         for server, label in enumerate(SERVERS):
             whole[label] = {
                 "begin": self.first[server],
@@ -551,7 +563,7 @@ class Run:
                 },
             }
         end = {
-            "glb's status": getattr(self, "status", None),
+            "status of glb": getattr(self, "status", None),
             "answered at the end, of 20": getattr(self, "answered", None),
             "maps": self.feed.maps,
         }
@@ -622,7 +634,7 @@ def tell(figures: dict[str, Any]) -> None:
             f"    {label}: begin {one['begin']}, behind the first round {rounds[0] if rounds else None}, end {one['end']}, processor {one['processor seconds']} s"
         )
     print(
-        f"glb's status {figures[chr(103) + 'lb' + chr(39) + 's status']}, {figures['answered at the end, of 20']} of 20 answered at its end, {figures['maps']} maps"
+        f"glb's status {figures['status of glb']}, {figures['answered at the end, of 20']} of 20 answered at its end, {figures['maps']} maps"
     )
     print(*figures["faults"], sep="\n", end="\n" if figures["faults"] else "")
     print("all as due" if not figures["faults"] else f"{len(figures['faults'])} faults")
@@ -650,6 +662,13 @@ def read_words() -> argparse.Namespace:
         help="the number from which all draws follow, 1 if it is not given",
     )
     parser.add_argument(
+        "--phase",
+        type=float,
+        default=PHASE,
+        metavar="SECONDS",
+        help=f"how long a phase is at most, {PHASE:.0f} if it is not given",
+    )
+    parser.add_argument(
         "--progress", action="store_true", help="say on standard error when a phase has ended"
     )
     parser.add_argument("--json", action="store_true", help="write all figures as JSON")
@@ -663,6 +682,8 @@ def read_words() -> argparse.Namespace:
     options = parser.parse_args()
     if not 0.1 <= options.minutes <= 300:
         parser.error("--minutes is not from 0.1 to 300")
+    if not 0.1 <= options.phase <= 600:
+        parser.error("--phase is not from 0.1 to 600")
     return options
 
 
@@ -671,11 +692,9 @@ def main() -> None:
     for program in (GLB, "nsd"):
         if not shutil.which(program):
             leave(3, f"{program} is not there")
-    topology: Any = crowd_clients.second.Topology(TOPOLOGY)
+    topology: Any = second.Topology(TOPOLOGY)
     for text, capacity in zip(MAPS, ([10, 10, 10], [0, 10, 10])):
-        said = crowd_clients.second.verdict(
-            topology, topology.demand, capacity, crowd_clients.second.Map(topology, text)
-        )
+        said = second.verdict(topology, topology.demand, capacity, second.Map(topology, text))
         assert said == "good", said
     with tempfile.TemporaryDirectory() as folder:
         servers = start_servers(Path(folder))
