@@ -27,6 +27,8 @@ IP_BIND_ADDRESS_NO_PORT = 24
 DEADLINE, DATAGRAM_DEADLINE = 10.0, 5.0
 # a connection that asks within a tenth of a second is owed an answer (docs/operating/limits.md): less some milliseconds
 OWED = 95_000_000
+# how long a connection may bring no whole query and take no octet of a reply
+LONGEST_IDLE = 10_000_000_000
 # how many commits a run may have
 MOST_COMMITS = 20_000
 FORTY = {
@@ -347,7 +349,7 @@ class Honest:
                 time.sleep(0.03)
                 pause = time.monotonic_ns() - before
             fate, what = self.asked_over(client, message, begin)
-            if fate == CLOSED and self.sent_at - begin >= OWED:
+            if fate == CLOSED and self.judge.is_glb and self.sent_at - begin >= OWED:
                 fate = GAVE_WAY
             self.kept.take(phase, begin + pause, fate, what)
 
@@ -390,7 +392,7 @@ class Honest:
         fate, what = self.asked_over(self.stream, message, begin)
         # it took its last octets behind its last question, and may give way a tenth of a second behind that
         idle = self.sent_at - self.last_sent
-        if fate == CLOSED and idle >= OWED:
+        if fate == CLOSED and self.judge.is_glb and idle >= OWED:
             fate = GAVE_WAY
         self.kept.take(phase, begin, fate, f"{what}, {idle // 1000} us behind the question before")
         self.last_sent = begin
@@ -443,8 +445,9 @@ class Client:
         self.crowd, self.socket = crowd, bound(source)
         self.loop = asyncio.get_running_loop()
         self.held, self.ended = bytearray(), False
-        # of a client of a crowd: when it began to connect, and when it had asked
-        self.came, self.had_asked = 0, 0
+        # when it began to connect, the last call to send, and the last one ahead of a reply; of a crowd also when it had asked
+        self.came = self.sends = self.moved = time.monotonic_ns()
+        self.is_of_crowd, self.had_asked = False, 0
         self.due: dict[bytes, tuple[int, bytes]] = {}
         if buffer:
             self.socket.setsockopt(socket.SOL_SOCKET, socket.SO_RCVBUF, buffer)
@@ -478,6 +481,7 @@ class Client:
         raise Gone
 
     async def send(self, octets: bytes) -> None:
+        self.sends = time.monotonic_ns()
         try:
             await self.loop.sock_sendall(self.socket, octets)
         except OSError:
@@ -500,15 +504,28 @@ class Client:
         self.ended = True
         if self.due:
             begin, message = next(iter(self.due.values()))
-            # one that asked late may have given way to another address
-            is_late = self.came > 0 and (self.had_asked or time.monotonic_ns()) - self.came >= OWED
-            what = FATES[GAVE_WAY] if is_late else "closed"
+            what = self.why_closed()
             self.crowd.note(
                 what,
-                f"{len(self.due)} due, the first {message.hex()} asked at {begin} ns, came at {self.came}",
+                f"{len(self.due)} due, the first {message.hex()} asked at {begin} ns,"
+                f" came at {self.came}, moved at {self.moved}",
             )
             self.crowd.count[what] += len(self.due) - 1
             self.due.clear()
+
+    def why_closed(self) -> str:
+        """Whether the documents of glb let it close: one that asked late gives way to another address, and ten seconds are all
+        that a connection gets for a whole query."""
+        now = time.monotonic_ns()
+        if (
+            self.crowd.judge.is_glb
+            and self.is_of_crowd
+            and (self.had_asked or now) - self.came >= OWED
+        ):
+            return FATES[GAVE_WAY]
+        if self.crowd.judge.is_glb and now - self.moved >= LONGEST_IDLE:
+            return "closed after ten seconds"
+        return "closed"
 
     async def hear(self, seconds: float, most: int = 65536) -> bool:
         """Reads once, in that time. Whether something came."""
@@ -541,10 +558,19 @@ class Client:
         if reply[:2] != next(iter(self.due)):
             crowd.note("out of order", reply.hex())
         begin, message = self.due.pop(reply[:2])
+        self.moved = self.sends
         if crowd.judge.is_right(message, reply, begin, True):
             crowd.count["right"] += 1
         else:
             crowd.note("wrong", f"{message.hex()} asked at {begin} ns got {reply.hex()}")
+
+    def end_of_sending(self) -> None:
+        """It sends no more."""
+        try:
+            self.socket.shutdown(socket.SHUT_WR)
+        except OSError:
+            self.lost()
+            raise Gone
 
     async def take(self, seconds: float = DEADLINE) -> None:
         """Reads until all that is due has come."""
@@ -651,7 +677,7 @@ async def half_closed(client: Client, number: int) -> None:
     client.expect(*messages)
     part = framed(crowd.question())[: crowd.rng.randrange(30)]
     await client.send(b"".join(map(framed, messages)) + part)
-    client.socket.shutdown(socket.SHUT_WR)
+    client.end_of_sending()
     await client.take()
     if not await client.until_closed(DEADLINE):
         crowd.note("not closed behind the peer's end", "")
@@ -699,7 +725,7 @@ async def lengths(client: Client, number: int) -> None:
         await client.send(framed(ahead) + rng.randrange(100, 4097).to_bytes(2) + behind)
         await client.take()
         if kind == 4 and not client.ended:
-            client.socket.shutdown(socket.SHUT_WR)
+            client.end_of_sending()
             if not await client.until_closed(DEADLINE):
                 crowd.note("not closed behind the peer's end", "")
     else:
@@ -790,7 +816,7 @@ async def crowding(crowd: Crowd, clients: int, addresses: int, net: int) -> None
         held = []
         for number in range(clients):
             client = Client(crowd, source_of(net, number % addresses))
-            client.came = time.monotonic_ns()
+            client.is_of_crowd = True
             try:
                 client.connect_at_once()
                 held.append(client)
