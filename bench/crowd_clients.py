@@ -515,7 +515,8 @@ class Client:
 
     def why_closed(self) -> str:
         """Whether the documents of glb let it close: one that asked late gives way to another address, and ten seconds are all
-        that a connection gets for a whole query."""
+        that a connection gets for a whole query. So this has to be still at its query when they are over.
+        """
         now = time.monotonic_ns()
         if (
             self.crowd.judge.is_glb
@@ -523,7 +524,7 @@ class Client:
             and (self.had_asked or now) - self.came >= OWED
         ):
             return FATES[GAVE_WAY]
-        if self.crowd.judge.is_glb and now - self.moved >= LONGEST_IDLE:
+        if self.crowd.judge.is_glb and self.sends - self.moved >= LONGEST_IDLE:
             return "closed after ten seconds"
         return "closed"
 
