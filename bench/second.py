@@ -766,8 +766,8 @@ def record(owner, kind, ttl, data):
     return owner + kind.to_bytes(2) + b"\0\1" + ttl.to_bytes(4) + len(data).to_bytes(2) + data
 
 
-def replies(topology, found, client, octets):
-    """The replies of a map to the octets from an address; none where nothing is sent back."""
+def replies(topology, found, client, octets, by_tcp=False):
+    """The replies of a map to the octets from an address, by a datagram or over TCP; none where nothing is sent back."""
     if not 12 <= len(octets) <= 4096 or octets[2] & 0x80:
         return None
     opcode, rd = octets[2] >> 3 & 15, octets[2] & 1
@@ -792,10 +792,10 @@ def replies(topology, found, client, octets):
     if len(opts) > 1 or any(r[0] != b"\0" for r in opts):
         return alone(1)
     name, kind, klass, question = octets[12:end], int.from_bytes(octets[end : end + 2]), int.from_bytes(octets[end + 2 : end + 4]), octets[12 : end + 4]
-    return answer(topology, found, client, header, question, name, kind, klass, opts[0] if opts else None)
+    return answer(topology, found, client, header, question, name, kind, klass, opts[0] if opts else None, by_tcp)
 
 
-def answer(topology, found, client, header, question, name, kind, klass, opt):
+def answer(topology, found, client, header, question, name, kind, klass, opt, by_tcp):
     zone = topology.zone
     do = opt[3][2] & 0x80 if opt else 0
     subnet = None
@@ -811,9 +811,9 @@ def answer(topology, found, client, header, question, name, kind, klass, opt):
         return reply
 
     def fitting(records, scope):
-        """The reply with these records, or with none and TC, where it would be too long for a datagram."""
+        """The reply with these records, or with none and TC, where it would be longer than its limit."""
         reply = whole(1, 0, records, scope=scope)
-        most = min(max(512, opt[2]), 1232) if opt else 512
+        most = 65535 if by_tcp else min(max(512, opt[2]), 1232) if opt else 512
         return reply if len(reply) <= most else whole(1, 0, scope=scope, tc=1)
 
     if opt and opt[3][1] != 0:
