@@ -1,10 +1,12 @@
 """The planted bugs of bench/planted fit the text, and bench/planted.py says which do not."""
 
+import os
 import subprocess
 import sys
 import tempfile
 import unittest
 from pathlib import Path
+from unittest import mock
 
 from samples import TOP
 
@@ -19,6 +21,17 @@ TEXT = """fn low(count: u64) -> u64 {
 fn high(count: u64) -> u64 {
     low(count) + 1
 }
+"""
+
+
+# a prover that refuses 2 in the place of 3, cannot read two, and has nothing against the rest
+PROVER = """#!/usr/bin/env python3
+text = open("src/lib.rt").read()
+if "< two" in text:
+    print("error: src/lib.rt:2:16: no such name")
+else:
+    print("fn all::low:", "no proof: clause small" if "< 2" in text else "no holes")
+    print("fn all::high:", "no proof: it calls low, which is not proved" if "< 2" in text else "no holes")
 """
 
 
@@ -99,6 +112,24 @@ class Planted(unittest.TestCase):
         ):
             with self.subTest(said=said):
                 self.assertEqual(planted.blamed(said, self.folder, bugs), found)
+
+    def test_each_has_its_outcome(self):
+        prover = self.folder / "rt"
+        prover.write_text(PROVER)
+        prover.chmod(0o755)
+        bugs = [
+            ("refused", "it is wrong", [("src/lib.rt", "< 3", "< 2")]),
+            ("unread", "it is no text", [("src/lib.rt", "if count < 3", "if count < two")]),
+            ("swapped", "it is free", [("src/lib.rt", "{ 1 } else { 2 }", "{ 2 } else { 1 }")]),
+            ("added", "it is free", [("src/lib.rt", "+ 1", "+ 2")]),
+        ]
+        path = f"{self.folder}{os.pathsep}{os.environ['PATH']}"
+        with mock.patch.object(planted, "bugs_of", lambda crate: bugs):
+            with mock.patch.dict(os.environ, {"PATH": path}):
+                outcomes = planted.judge(self.folder, "all")
+        due = ["refused", "does not compile", "let through", "let through"]
+        self.assertEqual(outcomes, dict(zip(["refused", "unread", "swapped", "added"], due)))
+        self.assertEqual((self.folder / "src/lib.rt").read_text(), TEXT)
 
     def test_command(self):
         for words, status in (
