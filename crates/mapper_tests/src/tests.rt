@@ -59,6 +59,7 @@ fn lines(rt: HostRuntime) -> Result<(), Fail> {
 }
 
 /// A feed over a mapper of the example, and what comes of it.
+#[derive(Drop)]
 struct Row {
     feed: &'static str,
     /// The puts that fail, by their numbers from 0.
@@ -72,155 +73,105 @@ struct Row {
     notes: usize,
 }
 
-const SESSION: &str = "demand g2 4
-commit
-ask 198.51.100.7 123401000001000000000000037777770363646e076578616d706c650000010001
-show
-commit
-stop
-";
+const SESSION: &str =
+    "demand g2 4\ncommit\nask 198.51.100.7 123401000001000000000000037777770363646e076578616d706c650000010001\nshow\ncommit\nstop\n";
 
-const PUBLISHED: &str = "published 1
-";
+const PUBLISHED: &str = "published 1\n";
 
-const ANSWERED: &str = "published 1
-answer 1 123485000001000100000000037777770363646e076578616d706c650000010001c00c00010001000000140004c0000201
-";
+const ANSWERED: &str =
+    "published 1\nanswer 1 123485000001000100000000037777770363646e076578616d706c650000010001c00c00010001000000140004c0000201\n";
 
-const SHOWN: &str = "published 1
-answer 1 123485000001000100000000037777770363646e076578616d706c650000010001c00c00010001000000140004c0000201
-show 1 placed 12 unplaced 0 full 1
-";
+const SHOWN: &str =
+    "published 1\nanswer 1 123485000001000100000000037777770363646e076578616d706c650000010001c00c00010001000000140004c0000201\nshow 1 placed 12 unplaced 0 full 1\n";
 
-const SAID: &str = "published 1
-answer 1 123485000001000100000000037777770363646e076578616d706c650000010001c00c00010001000000140004c0000201
-show 1 placed 12 unplaced 0 full 1
-published 1
-";
+const SAID: &str =
+    "published 1\nanswer 1 123485000001000100000000037777770363646e076578616d706c650000010001c00c00010001000000140004c0000201\nshow 1 placed 12 unplaced 0 full 1\npublished 1\n";
 
-const SECOND_MAP: &str = "glb map 2
-place g1 A 8
-place g2 A 2
-place g2 B 2
-full g2 A A
-end
-";
+const SECOND_MAP: &str = "glb map 2\nplace g1 A 8\nplace g2 A 2\nplace g2 B 2\nfull g2 A A\nend\n";
 
-const REFUSED: &str = "demand nobody 3
-demand g1 5
-commit
-stop
-";
+const REFUSED: &str = "demand nobody 3\ndemand g1 5\ncommit\nstop\n";
 
-const DROPPED: &str = "refused 1 unknown name
-refused commit lines 1
-";
+const DROPPED: &str = "refused 1 unknown name\nrefused commit lines 1\n";
+
+/// No feed.
+const QUIET: Row = Row {
+    feed: "",
+    out_fails: &[],
+    maps_fails: &[],
+    end: FeedEnd::Ended,
+    out: "",
+    maps: "",
+    calls: &[PaceCall::Done(0)],
+    notes: 0,
+};
 
 /// The session, a batch that a refused line drops, no feed, a line that no LF ends, and a query without a reply.
 const ROWS: [Row; 5] = [
     Row {
         feed: SESSION,
-        out_fails: &[],
-        maps_fails: &[],
-        end: FeedEnd::Ended,
         out: SAID,
         maps: SECOND_MAP,
         calls: &[PaceCall::Before(0), PaceCall::Before(1), PaceCall::Done(1)],
         notes: 1,
+        ..QUIET
     },
     Row {
         feed: REFUSED,
-        out_fails: &[],
-        maps_fails: &[],
-        end: FeedEnd::Ended,
         out: DROPPED,
-        maps: "",
         calls: &[PaceCall::Before(0), PaceCall::Done(0)],
-        notes: 0,
+        ..QUIET
     },
-    Row {
-        feed: "",
-        out_fails: &[],
-        maps_fails: &[],
-        end: FeedEnd::Ended,
-        out: "",
-        maps: "",
-        calls: &[PaceCall::Done(0)],
-        notes: 0,
-    },
+    QUIET,
     Row {
         feed: "show",
-        out_fails: &[],
-        maps_fails: &[],
-        end: FeedEnd::Ended,
         out: "show 0 placed 15 unplaced 1 full 2\n",
-        maps: "",
-        calls: &[PaceCall::Done(0)],
-        notes: 0,
+        ..QUIET
     },
     Row {
         feed: "ask 198.51.100.7 1234\n",
-        out_fails: &[],
-        maps_fails: &[],
-        end: FeedEnd::Ended,
         out: "answer 0 -\n",
-        maps: "",
-        calls: &[PaceCall::Done(0)],
-        notes: 0,
+        ..QUIET
     },
 ];
+
+/// The session, in which a put fails.
+const CUT: Row = Row {
+    feed: SESSION,
+    end: FeedEnd::SinkFault,
+    maps: SECOND_MAP,
+    calls: &[PaceCall::Before(0), PaceCall::Done(1)],
+    notes: 1,
+    ..QUIET
+};
 
 /// The session, in which each of the five puts fails in turn.
 const CUTS: [Row; 5] = [
     Row {
-        feed: SESSION,
-        out_fails: &[],
         maps_fails: &[0],
-        end: FeedEnd::SinkFault,
-        out: "",
         maps: "",
-        calls: &[PaceCall::Before(0), PaceCall::Done(1)],
         notes: 0,
+        ..CUT
     },
     Row {
-        feed: SESSION,
         out_fails: &[0],
-        maps_fails: &[],
-        end: FeedEnd::SinkFault,
-        out: "",
-        maps: SECOND_MAP,
-        calls: &[PaceCall::Before(0), PaceCall::Done(1)],
         notes: 0,
+        ..CUT
     },
     Row {
-        feed: SESSION,
         out_fails: &[1],
-        maps_fails: &[],
-        end: FeedEnd::SinkFault,
         out: PUBLISHED,
-        maps: SECOND_MAP,
-        calls: &[PaceCall::Before(0), PaceCall::Done(1)],
-        notes: 1,
+        ..CUT
     },
     Row {
-        feed: SESSION,
         out_fails: &[2],
-        maps_fails: &[],
-        end: FeedEnd::SinkFault,
         out: ANSWERED,
-        maps: SECOND_MAP,
-        calls: &[PaceCall::Before(0), PaceCall::Done(1)],
-        notes: 1,
+        ..CUT
     },
     Row {
-        feed: SESSION,
         out_fails: &[3],
-        maps_fails: &[],
-        end: FeedEnd::SinkFault,
         out: SHOWN,
-        maps: SECOND_MAP,
         calls: &[PaceCall::Before(0), PaceCall::Before(1), PaceCall::Done(1)],
-        notes: 1,
+        ..CUT
     },
 ];
 
@@ -448,24 +399,16 @@ fn many_changes(alloc: Global, count: usize) -> Result<Vec<u8>, NoMemory> {
 /// Of a batch of 4,096 changes, and of one with one more.
 const FULL: [Row; 2] = [
     Row {
-        feed: "",
-        out_fails: &[],
-        maps_fails: &[],
-        end: FeedEnd::Ended,
         out: PUBLISHED,
         maps: SECOND_MAP,
         calls: &[PaceCall::Before(0), PaceCall::Done(1)],
         notes: 1,
+        ..QUIET
     },
     Row {
-        feed: "",
-        out_fails: &[],
-        maps_fails: &[],
-        end: FeedEnd::Ended,
         out: "refused 4097 batch full\nrefused commit lines 1\n",
-        maps: "",
         calls: &[PaceCall::Before(0), PaceCall::Done(0)],
-        notes: 0,
+        ..QUIET
     },
 ];
 

@@ -5,8 +5,7 @@ ghost use Rattle.map_model.specs.Allocation.{IsGood};
 ghost use Rattle.evict.specs.Standing.{IsOpen};
 
 use evict::State;
-use map_model::Change::{Capacity, Demand};
-use map_model::{Change, GroupId, Instance, MapLines, NodeId};
+use map_model::{GroupId, Instance, MOST_CAPACITY, MapLines, NodeId};
 use move_up::{Asked, Search, move_up};
 use no_memory::NoMemory;
 use reopen::cut_and_trim;
@@ -16,6 +15,15 @@ use std::test::Fail;
 use worlds::{
     GroupAt, INNER, LIMIT, LimitAt, NameAt, NodeAt, POOL, Placed, limited_instance_of, map_of,
 };
+
+/// What a group asks for now, or what a node holds at most.
+#[derive(Clone, Copy)]
+enum Change {
+    Asks(u32, u32),
+    Holds(u32, u64),
+}
+
+use Change::{Asks, Holds};
 
 /// A good map, a batch of changes, and what is so once units moved up from the state that was cut.
 struct Case {
@@ -43,10 +51,7 @@ const TWO_POOLS: Case = Case {
     limits: &[],
     lines: &[(0, 0, 2), (1, 0, 1), (1, 1, 3)],
     names: &[(1, 0, 0)],
-    changes: &[Capacity {
-        node: NodeId(0),
-        capacity: 5,
-    }],
+    changes: &[Holds(0, 5)],
     marked: true,
     turns: 9,
     moved: &[(0, 0, 2), (1, 0, 3), (1, 1, 1)],
@@ -67,10 +72,7 @@ const REGION: Case = Case {
     limits: &[],
     lines: &[(0, 0, 2), (0, 1, 1), (1, 1, 3)],
     names: &[(0, 0, 0), (1, 0, 0)],
-    changes: &[Capacity {
-        node: NodeId(0),
-        capacity: 4,
-    }],
+    changes: &[Holds(0, 4)],
     marked: true,
     turns: 9,
     moved: &[(0, 0, 3), (1, 0, 1), (1, 1, 2)],
@@ -90,10 +92,7 @@ const CASES: &[Case] = &[
     Case {
         name: "an offer is not raised past its limit",
         limits: &[(1, 0, 2)],
-        changes: &[Capacity {
-            node: NodeId(0),
-            capacity: 9,
-        }],
+        changes: &[Holds(0, 9)],
         moved: &[(0, 0, 2), (1, 0, 2), (1, 1, 2)],
         ..TWO_POOLS
     },
@@ -108,10 +107,7 @@ const CASES: &[Case] = &[
     },
     Case {
         name: "all units move up, and the pointer goes back",
-        changes: &[Capacity {
-            node: NodeId(0),
-            capacity: 9,
-        }],
+        changes: &[Holds(0, 9)],
         moved: &[(0, 0, 2), (1, 0, 4)],
         pointers: &[0, 0],
         ..TWO_POOLS
@@ -142,10 +138,7 @@ const CASES: &[Case] = &[
         groups: &[(2, &[(2, 1), (1, 9)]), (2, &[(3, 5), (1, 9)])],
         lines: &[(0, 0, 1), (0, 1, 1), (1, 0, 2)],
         names: &[(0, 0, 2)],
-        changes: &[Capacity {
-            node: NodeId(2),
-            capacity: 2,
-        }],
+        changes: &[Holds(2, 2)],
         moved: &[(0, 0, 2), (1, 0, 1)],
         pointers: &[0, 0],
         free: &[0, 1],
@@ -163,10 +156,7 @@ const CASES: &[Case] = &[
         groups: &[(2, &[(2, 1), (3, 2)]), (2, &[(3, 5), (1, 9)])],
         lines: &[(0, 0, 1), (0, 1, 1), (1, 0, 2)],
         names: &[(0, 0, 2)],
-        changes: &[Capacity {
-            node: NodeId(2),
-            capacity: 2,
-        }],
+        changes: &[Holds(2, 2)],
         moved: &[(0, 0, 2), (1, 0, 2)],
         pointers: &[0, 0],
         ..REGION
@@ -182,10 +172,7 @@ const CASES: &[Case] = &[
         ],
         lines: &[(0, 0, 1), (1, 1, 1), (2, 1, 1)],
         names: &[(1, 0, 0), (2, 0, 1)],
-        changes: &[Capacity {
-            node: NodeId(0),
-            capacity: 2,
-        }],
+        changes: &[Holds(0, 2)],
         moved: &[(0, 0, 1), (1, 0, 1), (2, 0, 1)],
         pointers: &[0, 0, 0],
         free: &[0, 0, 0],
@@ -225,10 +212,7 @@ const CASES: &[Case] = &[
             (6, 1, 1),
         ],
         names: &[(1, 0, 0), (2, 0, 0), (3, 0, 0), (4, 0, 2), (6, 0, 0)],
-        changes: &[Capacity {
-            node: NodeId(0),
-            capacity: 5,
-        }],
+        changes: &[Holds(0, 5)],
         moved: &[
             (0, 0, 1),
             (1, 0, 1),
@@ -258,10 +242,7 @@ const CASES: &[Case] = &[
         ],
         lines: &[(0, 0, 1), (1, 2, 1), (2, 1, 1)],
         names: &[(1, 0, 0), (1, 1, 0), (2, 0, 0)],
-        changes: &[Capacity {
-            node: NodeId(0),
-            capacity: 3,
-        }],
+        changes: &[Holds(0, 3)],
         moved: &[(0, 0, 1), (1, 0, 1), (2, 0, 1)],
         pointers: &[0, 0, 0],
         free: &[0, 0, 0],
@@ -276,16 +257,7 @@ const CASES: &[Case] = &[
         limits: &[(0, 1, 2)],
         lines: &[(0, 0, 3), (0, 1, 2), (0, 2, 1)],
         names: &[(0, 0, 0), (0, 1, LIMIT)],
-        changes: &[
-            Demand {
-                group: GroupId(0),
-                demand: 4,
-            },
-            Capacity {
-                node: NodeId(0),
-                capacity: 1,
-            },
-        ],
+        changes: &[Asks(0, 4), Holds(0, 1)],
         moved: &[(0, 0, 1), (0, 1, 1)],
         pointers: &[1],
         free: &[2],
@@ -298,10 +270,7 @@ const CASES: &[Case] = &[
         groups: &[(3, &[(0, 1), (1, 1)]), (2, &[(0, 0)])],
         lines: &[(0, 0, 1), (0, 1, 2), (1, 0, 2)],
         names: &[(0, 0, 0)],
-        changes: &[Demand {
-            group: GroupId(0),
-            demand: 1,
-        }],
+        changes: &[Asks(0, 1)],
         marked: false,
         moved: &[(0, 0, 1), (1, 0, 2)],
         pointers: &[1, 0],
@@ -326,14 +295,14 @@ fn apply(instance: &mut Instance, change: Change)
     ensures { IsSameShape instance.old instance.new }
 {
     match change {
-        Demand { group, demand } => {
-            if group.0 < instance.groups() && demand >= 1 {
-                instance.set_demand(group, demand);
+        Asks(group, demand) => {
+            if group < instance.groups() && demand >= 1 {
+                instance.set_demand(GroupId(group), demand);
             }
         }
-        Capacity { node, capacity } => {
-            if node.0 < instance.nodes() && capacity <= map_model::MOST_CAPACITY {
-                instance.set_capacity(node, capacity);
+        Holds(node, capacity) => {
+            if node < instance.nodes() && capacity <= MOST_CAPACITY {
+                instance.set_capacity(NodeId(node), capacity);
             }
         }
     }

@@ -1,86 +1,31 @@
 //! Maps by hand, good ones and one for each fault.
 
-use map_model::{
-    By, Choice, ClientGroup, GroupId, Instance, MapLine, MapLines, NO_LIMIT, NameLine, Node, NodeId,
-};
+use map_model::{GroupId, Instance, NodeId};
+use stable_check::Verdict::{BadLine, BadName, Good};
 use stable_check::{CheckRoom, Verdict, check};
 use std::alloc::Global;
 use std::process::Abort;
 use std::test::Fail;
+use worlds::{
+    EMPTY_POOL, EXAMPLE, FULL_REGION, GroupAt, INNER, LIMIT, LimitAt, NameAt, NodeAt, POOL, Placed,
+    REFUSER_NO_LONGER_FULL, TWO_GOOD_MAPS, World, limited_instance_of, map_of,
+};
 
-/// A map and its verdict: lines (group, place, amount), names (group, place, node).
-#[derive(Clone, Copy)]
-struct Row<'a> {
-    lines: &'a [(u32, u8, u32)],
-    names: &'a [(u32, u8, u32)],
-    verdict: Verdict,
-}
+/// A map and its verdict.
+type Row<'a> = (&'a [Placed], &'a [NameAt], Verdict);
 
-fn root(capacity: u64) -> Node {
-    Node {
-        capacity,
-        parent: None,
-        is_pool: false,
-    }
-}
-
-fn pool(capacity: u64, parent: Option<u32>) -> Node {
-    Node {
-        capacity,
-        parent: parent.map(NodeId),
-        is_pool: true,
-    }
-}
-
+/// The instance of these rows.
 fn instance_of(
     alloc: Global,
-    nodes: &[Node],
-    groups: &[(u32, &[(u32, u32)])],
+    nodes: &[NodeAt],
+    groups: &[GroupAt],
+    limits: &[LimitAt],
 ) -> Result<Instance, Fail> {
-    let mut rows = Vec::new(alloc);
-    for &(demand, list) in groups {
-        let mut choices = Vec::new(alloc);
-        for &(pool, score) in list {
-            choices.push(Choice {
-                pool: NodeId(pool),
-                score,
-                limit: NO_LIMIT,
-            })?;
-        }
-        rows.push(ClientGroup::new(demand, choices))?;
-    }
-    Ok(Instance::try_from_rows(rows, nodes.to_vec(alloc)?).ok_or("no instance")?)
+    Ok(limited_instance_of(alloc, nodes, groups, limits)?.ok_or("no instance")?)
 }
 
-/// In place of a node: the offer's own limit.
-const LIMIT: u32 = u32::MAX;
-
-fn by_of(by: u32) -> By {
-    if by == LIMIT {
-        By::Limit
-    } else {
-        By::Node(NodeId(by))
-    }
-}
-
-fn map_of(alloc: Global, row: &Row) -> Result<MapLines, Fail> {
-    let mut lines = Vec::new(alloc);
-    for &(group, place, amount) in row.lines {
-        lines.push(MapLine {
-            group: GroupId(group),
-            place,
-            amount,
-        })?;
-    }
-    let mut names = Vec::new(alloc);
-    for &(group, place, by) in row.names {
-        names.push(NameLine {
-            group: GroupId(group),
-            place,
-            by: by_of(by),
-        })?;
-    }
-    Ok(MapLines { lines, names })
+fn of_world(alloc: Global, world: &World) -> Result<Instance, Fail> {
+    instance_of(alloc, world.nodes, world.groups, &[])
 }
 
 /// Checks each row's map in one room.
@@ -92,8 +37,9 @@ fn judge_rows(
 ) -> Result<(), Fail> {
     let mut room = CheckRoom::new(alloc, instance)?;
     for (i, row) in rows.iter().enumerate() {
-        let map = map_of(alloc, row)?;
-        assert_eq!(rt; check(instance, &map, &mut room), row.verdict, "at row {i}");
+        let (lines, names, verdict) = *row;
+        let map = map_of(alloc, lines, names)?;
+        assert_eq!(rt; check(instance, &map, &mut room), verdict, "at row {i}");
     }
     Ok(())
 }
@@ -102,6 +48,14 @@ fn over_demand(group: u32, placed: u64) -> Verdict {
     Verdict::OverDemand {
         group: GroupId(group),
         placed,
+    }
+}
+
+fn over_limit(group: u32, place: u8, amount: u64) -> Verdict {
+    Verdict::OverLimit {
+        group: GroupId(group),
+        place,
+        amount,
     }
 }
 
@@ -119,250 +73,118 @@ fn blocking(group: u32, place: u8) -> Verdict {
     }
 }
 
-const TWO_LEVEL_LINES: &[(u32, u8, u32)] = &[(0, 0, 8), (1, 0, 2), (1, 1, 5)];
+/// The good map of EXAMPLE.
+const LINES: &[Placed] = &[(0, 0, 8), (1, 0, 2), (1, 1, 5)];
 
-const TWO_LEVEL_NAMES: &[(u32, u8, u32)] = &[(1, 0, 1), (1, 1, 0)];
-
-// R 15; A 10 and B 10 under R; g1 8 [A,B] 1,2; g2 8 [A,B] 3,4.
-fn two_level(alloc: Global) -> Result<Instance, Fail> {
-    let nodes = [root(15), pool(10, Some(0)), pool(10, Some(0))];
-    instance_of(
-        alloc,
-        &nodes,
-        &[(8, &[(1, 1), (2, 2)]), (8, &[(1, 3), (2, 4)])],
-    )
-}
+const NAMES: &[NameAt] = &[(1, 0, 1), (1, 1, 0)];
 
 #[test]
 fn judges_two_level_eviction(rt: HostRuntime) -> Result<(), Fail> {
     let alloc = rt.alloc();
-    let rows = [
-        Row {
-            lines: TWO_LEVEL_LINES,
-            names: TWO_LEVEL_NAMES,
-            verdict: Verdict::Good,
-        },
+    let rows: [Row; 8] = [
+        (LINES, NAMES, Good),
         // An offer that is held in part is wanted, and no node refuses it.
-        Row {
-            lines: &[(0, 0, 8), (1, 0, 2), (1, 1, 4)],
-            names: TWO_LEVEL_NAMES,
-            verdict: blocking(1, 1),
-        },
-        Row {
-            lines: &[(0, 0, 9), (1, 0, 2), (1, 1, 5)],
-            names: TWO_LEVEL_NAMES,
-            verdict: over_demand(0, 9),
-        },
-        Row {
-            lines: &[(0, 0, 8), (1, 0, 2), (1, 1, 7)],
-            names: TWO_LEVEL_NAMES,
-            verdict: over_demand(1, 9),
-        },
-        Row {
-            lines: &[(0, 0, 8), (1, 0, 3), (1, 1, 4)],
-            names: TWO_LEVEL_NAMES,
-            verdict: over_capacity(1, 11),
-        },
-        Row {
-            lines: &[(0, 0, 8), (1, 0, 8)],
-            names: TWO_LEVEL_NAMES,
-            verdict: over_capacity(0, 16),
-        },
-        Row {
-            lines: &[],
-            names: &[],
-            verdict: blocking(0, 0),
-        },
-        Row {
-            lines: &[(0, 0, 8)],
-            names: &[],
-            verdict: blocking(1, 0),
-        },
+        (&[(0, 0, 8), (1, 0, 2), (1, 1, 4)], NAMES, blocking(1, 1)),
+        (&[(0, 0, 9), (1, 0, 2), (1, 1, 5)], NAMES, over_demand(0, 9)),
+        (&[(0, 0, 8), (1, 0, 2), (1, 1, 7)], NAMES, over_demand(1, 9)),
+        (
+            &[(0, 0, 8), (1, 0, 3), (1, 1, 4)],
+            NAMES,
+            over_capacity(1, 11),
+        ),
+        (&[(0, 0, 8), (1, 0, 8)], NAMES, over_capacity(0, 16)),
+        (&[], &[], blocking(0, 0)),
+        (&[(0, 0, 8)], &[], blocking(1, 0)),
     ];
-    judge_rows(&rt, alloc, &two_level(alloc)?, &rows)
+    judge_rows(&rt, alloc, &of_world(alloc, &EXAMPLE)?, &rows)
 }
 
 #[test]
 fn judges_names_of_two_level_eviction(rt: HostRuntime) -> Result<(), Fail> {
     let alloc = rt.alloc();
-    let rows = [
-        Row {
-            lines: TWO_LEVEL_LINES,
-            names: &[(1, 0, 0), (1, 1, 0)],
-            verdict: Verdict::BadName { index: 0 },
-        },
-        Row {
-            lines: TWO_LEVEL_LINES,
-            names: &[(1, 0, 1)],
-            verdict: Verdict::BadName { index: 1 },
-        },
-        Row {
-            lines: TWO_LEVEL_LINES,
-            names: &[(1, 1, 0), (1, 0, 1)],
-            verdict: Verdict::BadName { index: 0 },
-        },
-        Row {
-            lines: TWO_LEVEL_LINES,
-            names: &[(1, 0, 1), (1, 1, 0), (1, 1, 0)],
-            verdict: Verdict::BadName { index: 2 },
-        },
-        Row {
-            lines: TWO_LEVEL_LINES,
-            names: TWO_LEVEL_NAMES,
-            verdict: Verdict::Good,
-        },
+    let rows: [Row; 5] = [
+        (LINES, &[(1, 0, 0), (1, 1, 0)], BadName { index: 0 }),
+        (LINES, &[(1, 0, 1)], BadName { index: 1 }),
+        (LINES, &[(1, 1, 0), (1, 0, 1)], BadName { index: 0 }),
+        (
+            LINES,
+            &[(1, 0, 1), (1, 1, 0), (1, 1, 0)],
+            BadName { index: 2 },
+        ),
+        (LINES, NAMES, Good),
     ];
-    judge_rows(&rt, alloc, &two_level(alloc)?, &rows)
+    judge_rows(&rt, alloc, &of_world(alloc, &EXAMPLE)?, &rows)
 }
 
 #[test]
 fn judges_form_first(rt: HostRuntime) -> Result<(), Fail> {
     let alloc = rt.alloc();
     let rows: [Row; 7] = [
-        Row {
-            lines: &[(2, 0, 1)],
-            names: &[],
-            verdict: Verdict::BadLine { index: 0 },
-        },
-        Row {
-            lines: &[(0, 2, 1)],
-            names: &[],
-            verdict: Verdict::BadLine { index: 0 },
-        },
-        Row {
-            lines: &[(0, 0, 99), (0, 1, 0)],
-            names: &[],
-            verdict: Verdict::BadLine { index: 1 },
-        },
-        Row {
-            lines: &[(0, 0, 1), (0, 0, 1)],
-            names: &[],
-            verdict: Verdict::BadLine { index: 1 },
-        },
-        Row {
-            lines: &[(0, 1, 1), (0, 0, 1)],
-            names: &[],
-            verdict: Verdict::BadLine { index: 1 },
-        },
-        Row {
-            lines: &[(0, 1, 1), (1, 1, 1), (1, 0, 1)],
-            names: &[],
-            verdict: Verdict::BadLine { index: 2 },
-        },
-        Row {
-            lines: &[(1, 0, 1), (0, 1, 1)],
-            names: &[],
-            verdict: Verdict::BadLine { index: 1 },
-        },
+        (&[(2, 0, 1)], &[], BadLine { index: 0 }),
+        (&[(0, 2, 1)], &[], BadLine { index: 0 }),
+        (&[(0, 0, 99), (0, 1, 0)], &[], BadLine { index: 1 }),
+        (&[(0, 0, 1), (0, 0, 1)], &[], BadLine { index: 1 }),
+        (&[(0, 1, 1), (0, 0, 1)], &[], BadLine { index: 1 }),
+        (
+            &[(0, 1, 1), (1, 1, 1), (1, 0, 1)],
+            &[],
+            BadLine { index: 2 },
+        ),
+        (&[(1, 0, 1), (0, 1, 1)], &[], BadLine { index: 1 }),
     ];
-    judge_rows(&rt, alloc, &two_level(alloc)?, &rows)
+    judge_rows(&rt, alloc, &of_world(alloc, &EXAMPLE)?, &rows)
 }
 
-// R 10; A 6 and B 10 under R; a 6 [A] 5; b 4 [A] 6; c 8 [B] 1: A was full when it refused b first.
+// The first pool was full when it refused the second group first.
 #[test]
 fn judges_a_refuser_no_longer_full(rt: HostRuntime) -> Result<(), Fail> {
     let alloc = rt.alloc();
-    let nodes = [root(10), pool(6, Some(0)), pool(10, Some(0))];
-    let instance = instance_of(
-        alloc,
-        &nodes,
-        &[(6, &[(1, 5)]), (4, &[(1, 6)]), (8, &[(2, 1)])],
-    )?;
-    let lines = [(0, 0, 2), (2, 0, 8)];
-    let rows = [
-        Row {
-            lines: &lines,
-            names: &[(0, 0, 0), (1, 0, 0)],
-            verdict: Verdict::Good,
-        },
-        Row {
-            lines: &lines,
-            names: &[(0, 0, 0), (1, 0, 1)],
-            verdict: Verdict::BadName { index: 1 },
-        },
+    let instance = of_world(alloc, &REFUSER_NO_LONGER_FULL)?;
+    let rows: [Row; 2] = [
+        (&[(0, 0, 2), (2, 0, 8)], &[(0, 0, 0), (1, 0, 0)], Good),
+        (
+            &[(0, 0, 2), (2, 0, 8)],
+            &[(0, 0, 0), (1, 0, 1)],
+            BadName { index: 1 },
+        ),
     ];
     judge_rows(&rt, alloc, &instance, &rows)
 }
 
-// R 10; A and B 10 under R; a 8 [A] 1; b 8 [B] 2; and then A lowered to 3.
+// And then the first pool lowered to 3.
 #[test]
 fn judges_a_lowered_pool(rt: HostRuntime) -> Result<(), Fail> {
     let alloc = rt.alloc();
-    let nodes = [root(10), pool(10, Some(0)), pool(10, Some(0))];
-    let mut instance = instance_of(alloc, &nodes, &[(8, &[(1, 1)]), (8, &[(2, 2)])])?;
-    let was = [(0, 0, 8), (1, 0, 2)];
-    let now = [(0, 0, 3), (1, 0, 7)];
-    let rows = [Row {
-        lines: &was,
-        names: &[(1, 0, 0)],
-        verdict: Verdict::Good,
-    }];
+    let mut instance = of_world(alloc, &FULL_REGION)?;
+    let rows: [Row; 1] = [(&[(0, 0, 8), (1, 0, 2)], &[(1, 0, 0)], Good)];
     judge_rows(&rt, alloc, &instance, &rows)?;
     assert_eq!(rt; instance.nodes(), 3);
     instance.set_capacity(NodeId(1), 3);
-    let rows = [
-        Row {
-            lines: &was,
-            names: &[(1, 0, 0)],
-            verdict: over_capacity(1, 8),
-        },
-        Row {
-            lines: &[(0, 0, 3), (1, 0, 2)],
-            names: &[(0, 0, 1)],
-            verdict: blocking(1, 0),
-        },
-        Row {
-            lines: &now,
-            names: &[(0, 0, 1), (1, 0, 0)],
-            verdict: Verdict::Good,
-        },
+    let rows: [Row; 3] = [
+        (&[(0, 0, 8), (1, 0, 2)], &[(1, 0, 0)], over_capacity(1, 8)),
+        (&[(0, 0, 3), (1, 0, 2)], &[(0, 0, 1)], blocking(1, 0)),
+        (&[(0, 0, 3), (1, 0, 7)], &[(0, 0, 1), (1, 0, 0)], Good),
     ];
     judge_rows(&rt, alloc, &instance, &rows)
 }
 
-const CROSSED_LINES: &[(u32, u8, u32)] = &[(0, 1, 1), (1, 1, 1), (2, 0, 1)];
+/// The worse map of TWO_GOOD_MAPS.
+const CROSSED: &[Placed] = &[(0, 1, 1), (1, 1, 1), (2, 0, 1)];
 
-const CROSSED_NAMES: &[(u32, u8, u32)] = &[(0, 0, 0), (1, 0, 1)];
+const TURNED_AWAY: &[NameAt] = &[(0, 0, 0), (1, 0, 1)];
 
-// Three roots; the first two groups rank the first two pools crosswise, and the third asks for one unit and then for two.
+// The third group asks for one unit and then for two.
 #[test]
 fn judges_two_good_maps(rt: HostRuntime) -> Result<(), Fail> {
     let alloc = rt.alloc();
-    let nodes = [pool(1, None), pool(1, None), pool(5, None)];
-    let groups: [(u32, &[(u32, u32)]); 3] = [
-        (1, &[(0, 2), (1, 1)]),
-        (1, &[(1, 2), (0, 1)]),
-        (1, &[(2, 1)]),
-    ];
-    let mut instance = instance_of(alloc, &nodes, &groups)?;
-    judge_rows(
-        &rt,
-        alloc,
-        &instance,
-        &[Row {
-            lines: CROSSED_LINES,
-            names: CROSSED_NAMES,
-            verdict: Verdict::Good,
-        }],
-    )?;
+    let mut instance = of_world(alloc, &TWO_GOOD_MAPS)?;
+    judge_rows(&rt, alloc, &instance, &[(CROSSED, TURNED_AWAY, Good)])?;
     assert_eq!(rt; instance.groups(), 3);
     instance.set_demand(GroupId(2), 2);
-    let rows = [
-        Row {
-            lines: CROSSED_LINES,
-            names: CROSSED_NAMES,
-            verdict: blocking(2, 0),
-        },
-        Row {
-            lines: &[(0, 1, 1), (1, 1, 1), (2, 0, 2)],
-            names: CROSSED_NAMES,
-            verdict: Verdict::Good,
-        },
-        Row {
-            lines: &[(0, 0, 1), (1, 0, 1), (2, 0, 2)],
-            names: &[],
-            verdict: Verdict::Good,
-        },
+    let rows: [Row; 3] = [
+        (CROSSED, TURNED_AWAY, blocking(2, 0)),
+        (&[(0, 1, 1), (1, 1, 1), (2, 0, 2)], TURNED_AWAY, Good),
+        (&[(0, 0, 1), (1, 0, 1), (2, 0, 2)], &[], Good),
     ];
     judge_rows(&rt, alloc, &instance, &rows)
 }
@@ -370,196 +192,129 @@ fn judges_two_good_maps(rt: HostRuntime) -> Result<(), Fail> {
 #[test]
 fn judges_flat_instances(rt: HostRuntime) -> Result<(), Fail> {
     let alloc = rt.alloc();
-    let empty = instance_of(alloc, &[pool(0, None)], &[(1, &[(0, 1)])])?;
-    let rows = [
-        Row {
-            lines: &[],
-            names: &[(0, 0, 0)],
-            verdict: Verdict::Good,
-        },
-        Row {
-            lines: &[],
-            names: &[],
-            verdict: Verdict::BadName { index: 0 },
-        },
-        Row {
-            lines: &[(0, 0, 1)],
-            names: &[],
-            verdict: over_capacity(0, 1),
-        },
+    let empty = of_world(alloc, &EMPTY_POOL)?;
+    let rows: [Row; 3] = [
+        (&[], &[(0, 0, 0)], Good),
+        (&[], &[], BadName { index: 0 }),
+        (&[(0, 0, 1)], &[], over_capacity(0, 1)),
     ];
     judge_rows(&rt, alloc, &empty, &rows)?;
-    let single = instance_of(alloc, &[pool(10, None)], &[(4, &[(0, 1)])])?;
-    let rows = [
-        Row {
-            lines: &[(0, 0, 4)],
-            names: &[],
-            verdict: Verdict::Good,
-        },
-        Row {
-            lines: &[(0, 0, 3)],
-            names: &[],
-            verdict: blocking(0, 0),
-        },
-        Row {
-            lines: &[(0, 0, 5)],
-            names: &[],
-            verdict: over_demand(0, 5),
-        },
+    let single = instance_of(alloc, &[(10, None, POOL)], &[(4, &[(0, 1)])], &[])?;
+    let rows: [Row; 3] = [
+        (&[(0, 0, 4)], &[], Good),
+        (&[(0, 0, 3)], &[], blocking(0, 0)),
+        (&[(0, 0, 5)], &[], over_demand(0, 5)),
     ];
     judge_rows(&rt, alloc, &single, &rows)
 }
+
+/// One pool, and two groups of as good a key, or of which the second has a better one.
+const TWO_UNITS: &[NodeAt] = &[(2, None, POOL)];
+
+const SAME: &[GroupAt] = &[(2, &[(0, 7)]), (2, &[(0, 7)])];
+
+const BETTER: &[GroupAt] = &[(2, &[(0, 7)]), (2, &[(0, 6)])];
 
 // A key as good as that of the lines under a full node is refused; a better one blocks.
 #[test]
 fn judges_by_keys(rt: HostRuntime) -> Result<(), Fail> {
     let alloc = rt.alloc();
-    let nodes = [pool(2, None)];
-    let rows = [Row {
-        lines: &[(0, 0, 2)],
-        names: &[(1, 0, 0)],
-        verdict: Verdict::Good,
-    }];
-    let same = instance_of(alloc, &nodes, &[(2, &[(0, 7)]), (2, &[(0, 7)])])?;
-    judge_rows(&rt, alloc, &same, &rows)?;
-    let rows = [
-        Row {
-            lines: &[(1, 0, 2)],
-            names: &[(0, 0, 0)],
-            verdict: blocking(0, 0),
-        },
-        Row {
-            lines: &[(0, 0, 1), (1, 0, 1)],
-            names: &[(0, 0, 0), (1, 0, 0)],
-            verdict: blocking(0, 0),
-        },
+    let same = instance_of(alloc, TWO_UNITS, SAME, &[])?;
+    let rows: [Row; 3] = [
+        (&[(0, 0, 2)], &[(1, 0, 0)], Good),
+        (&[(1, 0, 2)], &[(0, 0, 0)], blocking(0, 0)),
+        (
+            &[(0, 0, 1), (1, 0, 1)],
+            &[(0, 0, 0), (1, 0, 0)],
+            blocking(0, 0),
+        ),
     ];
     judge_rows(&rt, alloc, &same, &rows)?;
-    let better = instance_of(alloc, &nodes, &[(2, &[(0, 7)]), (2, &[(0, 6)])])?;
-    let rows = [Row {
-        lines: &[(0, 0, 2)],
-        names: &[(1, 0, 0)],
-        verdict: blocking(1, 0),
-    }];
+    let better = instance_of(alloc, TWO_UNITS, BETTER, &[])?;
+    let rows: [Row; 1] = [(&[(0, 0, 2)], &[(1, 0, 0)], blocking(1, 0))];
     judge_rows(&rt, alloc, &better, &rows)
 }
+
+const MOST: u32 = u32::MAX;
+
+/// A root that holds what two groups may ask for at most, and no unit more.
+const LARGE_NODES: &[NodeAt] = &[
+    (8_589_934_590, None, INNER),
+    (1 << 48, Some(0), POOL),
+    (1 << 48, Some(0), POOL),
+];
+
+const LARGE_GROUPS: &[GroupAt] = &[(MOST, &[(1, MOST), (2, MOST)]), (MOST, &[(1, 0), (2, 0)])];
 
 #[test]
 fn judges_large_amounts(rt: HostRuntime) -> Result<(), Fail> {
     let alloc = rt.alloc();
-    let most = u32::MAX;
-    let nodes = [
-        root(2 * u64::from(most)),
-        pool(1 << 48, Some(0)),
-        pool(1 << 48, Some(0)),
-    ];
-    let groups: [(u32, &[(u32, u32)]); 2] = [
-        (most, &[(1, most), (2, most)]),
-        (most, &[(1, 0), (2, 0)]),
-    ];
-    let mut instance = instance_of(alloc, &nodes, &groups)?;
-    let full = [(0, 0, most), (1, 0, most)];
-    let rows = [
-        Row {
-            lines: &full,
-            names: &[],
-            verdict: Verdict::Good,
-        },
-        Row {
-            lines: &[(0, 0, most), (0, 1, most)],
-            names: &[],
-            verdict: over_demand(0, 8_589_934_590),
-        },
+    let mut instance = instance_of(alloc, LARGE_NODES, LARGE_GROUPS, &[])?;
+    let rows: [Row; 2] = [
+        (&[(0, 0, MOST), (1, 0, MOST)], &[], Good),
+        (
+            &[(0, 0, MOST), (0, 1, MOST)],
+            &[],
+            over_demand(0, 8_589_934_590),
+        ),
     ];
     judge_rows(&rt, alloc, &instance, &rows)?;
     assert_eq!(rt; instance.nodes(), 3);
     instance.set_capacity(NodeId(0), 8_589_934_589);
-    let rows = [
-        Row {
-            lines: &full,
-            names: &[],
-            verdict: over_capacity(0, 8_589_934_590),
-        },
-        Row {
-            lines: &[(0, 0, most - 1), (1, 0, most)],
-            names: &[(0, 0, 0), (0, 1, 0)],
-            verdict: Verdict::Good,
-        },
+    let rows: [Row; 2] = [
+        (
+            &[(0, 0, MOST), (1, 0, MOST)],
+            &[],
+            over_capacity(0, 8_589_934_590),
+        ),
+        (
+            &[(0, 0, MOST - 1), (1, 0, MOST)],
+            &[(0, 0, 0), (0, 1, 0)],
+            Good,
+        ),
     ];
     judge_rows(&rt, alloc, &instance, &rows)
 }
 
-/// A group of that demand, with pools, scores and limits.
-fn limited_group(
-    alloc: Global,
-    demand: u32,
-    list: &[(u32, u32, u32)],
-) -> Result<ClientGroup, Fail> {
-    let mut choices = Vec::new(alloc);
-    for &(pool, score, limit) in list {
-        choices.push(Choice {
-            pool: NodeId(pool),
-            score,
-            limit,
-        })?;
-    }
-    Ok(ClientGroup::new(demand, choices))
-}
+/// What limits of 5 and 10 units at the first group's places of EXAMPLE turn away.
+const BY_LIMIT: &[NameAt] = &[(0, 0, LIMIT), (1, 0, 1), (1, 1, 0)];
 
-// R 15; A 10 and B 10 under R; g1 8 [A,B] 1,2 with at most 5 and 10 units; g2 8 [A,B] 3,4.
-fn limited(alloc: Global) -> Result<Instance, Fail> {
-    let first = limited_group(alloc, 8, &[(1, 1, 5), (2, 2, 10)])?;
-    let second = limited_group(alloc, 8, &[(1, 3, NO_LIMIT), (2, 4, NO_LIMIT)])?;
-    let groups = vec![in alloc; first, second]?;
-    let nodes = [root(15), pool(10, Some(0)), pool(10, Some(0))];
-    Ok(Instance::try_from_rows(groups, nodes.to_vec(alloc)?).ok_or("no instance")?)
-}
+const AT_LIMIT: &[Placed] = &[(0, 0, 5), (0, 1, 3), (1, 0, 5), (1, 1, 2)];
 
 #[test]
 fn judges_limits(rt: HostRuntime) -> Result<(), Fail> {
     let alloc = rt.alloc();
-    let names: &[(u32, u8, u32)] = &[(0, 0, LIMIT), (1, 0, 1), (1, 1, 0)];
-    let rows = [
-        Row {
-            lines: &[(0, 0, 5), (0, 1, 3), (1, 0, 5), (1, 1, 2)],
-            names,
-            verdict: Verdict::Good,
-        },
-        Row {
-            lines: &[(0, 0, 6), (0, 1, 2), (1, 0, 5), (1, 1, 2)],
-            names,
-            verdict: Verdict::OverLimit {
-                group: GroupId(0),
-                place: 0,
-                amount: 6,
-            },
-        },
+    let rows: [Row; 6] = [
+        (AT_LIMIT, BY_LIMIT, Good),
+        (
+            &[(0, 0, 6), (0, 1, 2), (1, 0, 5), (1, 1, 2)],
+            BY_LIMIT,
+            over_limit(0, 0, 6),
+        ),
         // Ahead of a node over its capacity, and behind a group over its demand.
-        Row {
-            lines: &[(0, 0, 6), (0, 1, 2), (1, 0, 8)],
-            names,
-            verdict: Verdict::OverLimit {
-                group: GroupId(0),
-                place: 0,
-                amount: 6,
-            },
-        },
-        Row {
-            lines: &[(0, 0, 6), (0, 1, 3), (1, 0, 5), (1, 1, 2)],
-            names,
-            verdict: over_demand(0, 9),
-        },
-        Row {
-            lines: &[(0, 0, 4), (0, 1, 4), (1, 0, 6), (1, 1, 1)],
-            names,
-            verdict: blocking(0, 0),
-        },
+        (
+            &[(0, 0, 6), (0, 1, 2), (1, 0, 8)],
+            BY_LIMIT,
+            over_limit(0, 0, 6),
+        ),
+        (
+            &[(0, 0, 6), (0, 1, 3), (1, 0, 5), (1, 1, 2)],
+            BY_LIMIT,
+            over_demand(0, 9),
+        ),
+        (
+            &[(0, 0, 4), (0, 1, 4), (1, 0, 6), (1, 1, 1)],
+            BY_LIMIT,
+            blocking(0, 0),
+        ),
         // A node is named where the limit refuses.
-        Row {
-            lines: &[(0, 0, 5), (0, 1, 3), (1, 0, 5), (1, 1, 2)],
-            names: &[(0, 0, 1), (1, 0, 1), (1, 1, 0)],
-            verdict: Verdict::BadName { index: 0 },
-        },
+        (
+            AT_LIMIT,
+            &[(0, 0, 1), (1, 0, 1), (1, 1, 0)],
+            BadName { index: 0 },
+        ),
     ];
-    judge_rows(&rt, alloc, &limited(alloc)?, &rows)
+    let limits = &[(0, 0, 5), (0, 1, 10)];
+    let instance = instance_of(alloc, EXAMPLE.nodes, EXAMPLE.groups, limits)?;
+    judge_rows(&rt, alloc, &instance, &rows)
 }

@@ -267,63 +267,40 @@ fn first_other<R: Wait>(rt: &R, alloc: Global, rows: &[Row]) -> Option<usize> {
     None
 }
 
+/// Conversations of worker 1 that end with the port, where nothing fails, and what is written.
+type Whole = (&'static [Conversation], Written);
+
+/// The first of them that comes otherwise in so many turns, by its number.
+fn first_other_whole<R: Wait>(
+    rt: &R,
+    alloc: Global,
+    turns: usize,
+    rows: &[Whole],
+) -> Option<usize> {
+    for (number, (conversations, written)) in rows.iter().enumerate() {
+        let row = (1, turns, *conversations, NONE, Ended::PortEnd, *written);
+        if comes(rt, alloc, &row) != Some(true) {
+            return Some(number);
+        }
+    }
+    None
+}
+
 /// However the octets of a conversation are cut, the replies are the same: both queries in one piece, octet by octet, and
 /// in pieces of 7, 34, 35, 36 and 69 octets.
-const CUTS: &[Row] = &[
-    (1, 100, &[PLAIN], NONE, Ended::PortEnd, &[TWICE]),
-    (
-        1,
-        100,
-        &[(&[(0, TWO, 1)], 102)],
-        NONE,
-        Ended::PortEnd,
-        &[TWICE],
-    ),
-    (
-        1,
-        100,
-        &[(&[(0, TWO, 7)], 102)],
-        NONE,
-        Ended::PortEnd,
-        &[TWICE],
-    ),
-    (
-        1,
-        100,
-        &[(&[(0, TWO, 34)], 102)],
-        NONE,
-        Ended::PortEnd,
-        &[TWICE],
-    ),
-    (
-        1,
-        100,
-        &[(&[(0, TWO, 35)], 102)],
-        NONE,
-        Ended::PortEnd,
-        &[TWICE],
-    ),
-    (
-        1,
-        100,
-        &[(&[(0, TWO, 36)], 102)],
-        NONE,
-        Ended::PortEnd,
-        &[TWICE],
-    ),
-    (
-        1,
-        100,
-        &[(&[(0, TWO, 69)], 102)],
-        NONE,
-        Ended::PortEnd,
-        &[TWICE],
-    ),
+const CUTS: &[Whole] = &[
+    (&[PLAIN], &[TWICE]),
+    (&[(&[(0, TWO, 1)], 102)], &[TWICE]),
+    (&[(&[(0, TWO, 7)], 102)], &[TWICE]),
+    (&[(&[(0, TWO, 34)], 102)], &[TWICE]),
+    (&[(&[(0, TWO, 35)], 102)], &[TWICE]),
+    (&[(&[(0, TWO, 36)], 102)], &[TWICE]),
+    (&[(&[(0, TWO, 69)], 102)], &[TWICE]),
 ];
 
 #[test]
 fn answers_however_cut(rt: HostRuntime) -> Result<(), Fail> {
-    assert!(rt; first_other(&rt, rt.alloc(), CUTS).is_none());
+    assert!(rt; first_other_whole(&rt, rt.alloc(), 100, CUTS).is_none());
     Ok(())
 }
 
@@ -336,42 +313,20 @@ const LONG: &[u8] = &[
 /// A length above 4,096 gives nothing, and closes the conversation, also octet by octet and behind a message; what a
 /// conversation leaves unfinished is not that of the next one; and an empty message has no reply, but is counted: worker
 /// 0 draws pool B first, then A, then B.
-const LENGTHS: &[Row] = &[
+const LENGTHS: &[Whole] = &[
+    (&[(&[(0, LONG, 4_098)], 1_024), PLAIN], &[&[], TWICE]),
+    (&[(&[(0, LONG, 1)], 1_024), PLAIN], &[&[], TWICE]),
     (
-        1,
-        100,
-        &[(&[(0, LONG, 4_098)], 1_024), PLAIN],
-        NONE,
-        Ended::PortEnd,
-        &[&[], TWICE],
-    ),
-    (
-        1,
-        100,
-        &[(&[(0, LONG, 1)], 1_024), PLAIN],
-        NONE,
-        Ended::PortEnd,
-        &[&[], TWICE],
-    ),
-    (
-        1,
-        100,
         &[(
             &[(0, QUERY, 4_098), (0, LONG, 4_098), (0, QUERY, 4_098)],
             1_024,
         )],
-        NONE,
-        Ended::PortEnd,
         &[&[BY_B]],
     ),
-    (
-        1,
-        100,
-        &[(&[(0, FRONT_OF_B, 4_098)], 1_024), PLAIN],
-        NONE,
-        Ended::PortEnd,
-        &[&[], TWICE],
-    ),
+    (&[(&[(0, FRONT_OF_B, 4_098)], 1_024), PLAIN], &[&[], TWICE]),
+];
+
+const OF_WORKER_0: &[Row] = &[
     (0, 100, &[PLAIN], NONE, Ended::PortEnd, &[&[BY_B, BY_A]]),
     (
         0,
@@ -385,7 +340,8 @@ const LENGTHS: &[Row] = &[
 
 #[test]
 fn lengths(rt: HostRuntime) -> Result<(), Fail> {
-    assert!(rt; first_other(&rt, rt.alloc(), LENGTHS).is_none());
+    assert!(rt; first_other_whole(&rt, rt.alloc(), 100, LENGTHS).is_none());
+    assert!(rt; first_other(&rt, rt.alloc(), OF_WORKER_0).is_none());
     Ok(())
 }
 
@@ -424,44 +380,19 @@ fn failing_writes(rt: HostRuntime) -> Result<(), Fail> {
 }
 
 /// The 200th quiet read in a row closes a conversation, and no earlier one.
-const QUIETS: &[Row] = &[
+const QUIETS: &[Whole] = &[
+    (&[(&[(200, TWO, 4_098)], 1_024), PLAIN], &[&[], TWICE]),
+    (&[(&[(199, TWO, 4_098)], 1_024)], &[TWICE]),
+    (&[(&[(199, TWO, 35), (199, &[0], 1)], 1_024)], &[TWICE]),
     (
-        1,
-        1_000,
-        &[(&[(200, TWO, 4_098)], 1_024), PLAIN],
-        NONE,
-        Ended::PortEnd,
-        &[&[], TWICE],
-    ),
-    (
-        1,
-        1_000,
-        &[(&[(199, TWO, 4_098)], 1_024)],
-        NONE,
-        Ended::PortEnd,
-        &[TWICE],
-    ),
-    (
-        1,
-        1_000,
-        &[(&[(199, TWO, 35), (199, &[0], 1)], 1_024)],
-        NONE,
-        Ended::PortEnd,
-        &[TWICE],
-    ),
-    (
-        1,
-        1_000,
         &[(&[(0, QUERY, 4_098), (200, QUERY, 4_098)], 1_024)],
-        NONE,
-        Ended::PortEnd,
         &[&[BY_B]],
     ),
 ];
 
 #[test]
 fn quiet_reads(rt: HostRuntime) -> Result<(), Fail> {
-    assert!(rt; first_other(&rt, rt.alloc(), QUIETS).is_none());
+    assert!(rt; first_other_whole(&rt, rt.alloc(), 1_000, QUIETS).is_none());
     Ok(())
 }
 

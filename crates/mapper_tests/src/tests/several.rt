@@ -1,7 +1,7 @@
 //! Two feeds over a mapper: their merged control text, and how they end.
 ghost use Rattle.std.specs.Prelude.{◌≡◌, ◌<◌, ◌^◌, [], ◌∷◌, length, IfSome};
 
-use super::{SESSION, opened, row_of, sink_of, source_of, tells_of};
+use super::{SECOND_MAP, SESSION, opened, row_of, sink_of, source_of, tells_of};
 use demand_feed::FeedEnd;
 use feed_queue::{Feeder, Numbers, Taker, open};
 use map_cell::{EmptyHistory, Naming};
@@ -15,6 +15,7 @@ use std::test::Fail;
 use topology_text::Topology;
 
 /// Two feeds over a mapper of the example, of which the first or the second one is read first, and what comes of them.
+#[derive(Drop)]
 struct Row {
     feeds: [&'static str; 2],
     second_first: bool,
@@ -37,124 +38,73 @@ const FIRST: &str = "demand g1 7\ncommit\n";
 const SECOND: &str = "demand g2 4\ncommit\n";
 
 /// The map of the topology as it is read.
-const START: &str = "glb map 2
-place g1 A 8
-place g2 A 2
-place g2 B 5
-full g2 A A
-full g2 B R
-end
-";
+const START: &str =
+    "glb map 2\nplace g1 A 8\nplace g2 A 2\nplace g2 B 5\nfull g2 A A\nfull g2 B R\nend\n";
 
 /// The map of both feeds.
-const BOTH: &str = "glb map 2
-place g1 A 7
-place g2 A 3
-place g2 B 1
-full g2 A A
-end
-";
+const BOTH: &str = "glb map 2\nplace g1 A 7\nplace g2 A 3\nplace g2 B 1\nfull g2 A A\nend\n";
 
 /// The map of the first one alone.
-const ONE: &str = "glb map 2
-place g1 A 7
-place g2 A 3
-place g2 B 5
-full g2 A A
-end
-";
+const ONE: &str = "glb map 2\nplace g1 A 7\nplace g2 A 3\nplace g2 B 5\nfull g2 A A\nend\n";
 
-/// The map of a demand of 4 in the second group.
-const SMALL: &str = "glb map 2
-place g1 A 8
-place g2 A 2
-place g2 B 2
-full g2 A A
-end
-";
+/// Both feeds publish, the first one first.
+const PLAIN: Row = Row {
+    feeds: [FIRST, SECOND],
+    second_first: false,
+    turns: 1_000,
+    reads_fail: &[],
+    out_fails: &[],
+    end: FeedEnd::Ended,
+    out: "1 published 1\n2 published 2\n",
+    map: BOTH,
+    calls: &[PaceCall::Before(0), PaceCall::Before(1), PaceCall::Done(2)],
+    notes: 2,
+};
+
+/// The first feed alone publishes, and the second one is read first.
+const ALONE: Row = Row {
+    second_first: true,
+    map: ONE,
+    calls: &[PaceCall::Before(0), PaceCall::Before(0), PaceCall::Done(1)],
+    notes: 1,
+    ..PLAIN
+};
 
 /// Either order of two commits; a second feed that fails, that is read for one turn alone, that stops, that spoils its own
 /// batch and not the first one's, that asks, and whose commits are empty; and puts that fail.
 const ROWS: [Row; 9] = [
+    PLAIN,
     Row {
-        feeds: [FIRST, SECOND],
-        second_first: false,
-        turns: 1_000,
-        reads_fail: &[],
-        out_fails: &[],
-        end: FeedEnd::Ended,
-        out: "1 published 1\n2 published 2\n",
-        map: BOTH,
-        calls: &[PaceCall::Before(0), PaceCall::Before(1), PaceCall::Done(2)],
-        notes: 2,
-    },
-    Row {
-        feeds: [FIRST, SECOND],
         second_first: true,
-        turns: 1_000,
-        reads_fail: &[],
-        out_fails: &[],
-        end: FeedEnd::Ended,
         out: "2 published 1\n1 published 2\n",
-        map: BOTH,
-        calls: &[PaceCall::Before(0), PaceCall::Before(1), PaceCall::Done(2)],
-        notes: 2,
+        ..PLAIN
     },
     Row {
-        feeds: [FIRST, SECOND],
         second_first: false,
-        turns: 1_000,
         reads_fail: &[0],
-        out_fails: &[],
         end: FeedEnd::SourceFault,
         out: "1 published 1\n",
-        map: ONE,
         calls: &[PaceCall::Before(0), PaceCall::Done(1)],
-        notes: 1,
+        ..ALONE
     },
     Row {
-        feeds: [FIRST, SECOND],
-        second_first: false,
         turns: 1,
-        reads_fail: &[],
-        out_fails: &[],
         end: FeedEnd::Spent,
-        out: "1 published 1\n2 published 2\n",
-        map: BOTH,
-        calls: &[PaceCall::Before(0), PaceCall::Before(1), PaceCall::Done(2)],
-        notes: 2,
+        ..PLAIN
     },
     Row {
         feeds: [FIRST, "stop\ndemand g2 4\ncommit\n"],
-        second_first: true,
-        turns: 1_000,
-        reads_fail: &[],
-        out_fails: &[],
-        end: FeedEnd::Ended,
         out: "1 published 1\n",
-        map: ONE,
         calls: &[PaceCall::Before(0), PaceCall::Done(1)],
-        notes: 1,
+        ..ALONE
     },
     Row {
         feeds: [FIRST, "demand nobody 3\ndemand g1 5\ncommit\n"],
-        second_first: true,
-        turns: 1_000,
-        reads_fail: &[],
-        out_fails: &[],
-        end: FeedEnd::Ended,
         out: "2 refused 1 unknown name\n2 refused commit lines 1\n1 published 1\n",
-        map: ONE,
-        calls: &[PaceCall::Before(0), PaceCall::Before(0), PaceCall::Done(1)],
-        notes: 1,
+        ..ALONE
     },
     Row {
         feeds: [SESSION, "show\nask 198.51.100.7 1234\n"],
-        second_first: false,
-        turns: 1_000,
-        reads_fail: &[],
-        out_fails: &[],
-        end: FeedEnd::Ended,
         out: "1 published 1
 1 answer 1 123485000001000100000000037777770363646e076578616d706c650000010001c00c00010001000000140004c0000201
 1 show 1 placed 12 unplaced 0 full 1
@@ -162,33 +112,25 @@ const ROWS: [Row; 9] = [
 2 show 1 placed 12 unplaced 0 full 1
 2 answer 1 -
 ",
-        map: SMALL,
+        map: SECOND_MAP,
         calls: &[PaceCall::Before(0), PaceCall::Before(1), PaceCall::Done(1)],
         notes: 1,
+        ..PLAIN
     },
     Row {
         feeds: [FIRST, "commit\nshow"],
-        second_first: true,
-        turns: 1_000,
-        reads_fail: &[],
-        out_fails: &[],
-        end: FeedEnd::Ended,
         out: "2 published 0\n2 show 0 placed 15 unplaced 1 full 2\n1 published 1\n",
-        map: ONE,
-        calls: &[PaceCall::Before(0), PaceCall::Before(0), PaceCall::Done(1)],
-        notes: 1,
+        ..ALONE
     },
     Row {
         feeds: [FIRST, "show\ndemand g2 4\ncommit\n"],
-        second_first: true,
-        turns: 1_000,
-        reads_fail: &[],
         out_fails: &[0],
         end: FeedEnd::SinkFault,
         out: "",
         map: START,
         calls: &[PaceCall::Done(0)],
         notes: 0,
+        ..ALONE
     },
 ];
 

@@ -3,15 +3,59 @@ use super::{GROUPS, NODES, ZONE, example, is_read_as, joined, replaced};
 use std::alloc::Global;
 use std::process::Abort;
 
-/// The example is read as expected, with the first place of a text changed to another.
-fn replaced_is_read(rt: &impl Abort, alloc: Global, from: &str, to: &str, expected: &str) -> bool {
-    let Some(text) = example(alloc) else {
-        return false;
-    };
-    match replaced(alloc, text.as_str(), from, to) {
+/// A topology by how many there are of something in it, as the function says that makes it.
+#[derive(Clone, Copy)]
+enum Text {
+    /// The example with a text changed to so many letters and an end, in quotes.
+    Name(&'static str, usize, &'static str),
+    /// The example with a list changed to one of so many texts, each with that front and back.
+    List(&'static str, &'static str, usize, &'static str),
+    Hosted(usize),
+    Chain(usize),
+    Asking(usize),
+    /// So many more nodes and groups, and classes.
+    More(usize, usize, &'static str),
+    Prefixed(usize),
+}
+
+use Text::{Asking, Chain, Hosted, List, More, Name, Prefixed};
+
+fn text_of(alloc: Global, made: Text) -> Option<String> {
+    match made {
+        Name(from, length, end) => with_name(alloc, from, length, end),
+        List(from, front, count, back) => with_list(alloc, from, front, count, back),
+        Hosted(count) => with_hosts(alloc, count),
+        Chain(length) => with_path(alloc, length),
+        Asking(count) => with_pools(alloc, count),
+        More(nodes, groups, classes) => with_many(alloc, nodes, groups, classes),
+        Prefixed(count) => with_addresses(alloc, count),
+    }
+}
+
+/// A topology, and what is read of it.
+type Row = (Text, &'static str);
+
+fn row_is_read(rt: &impl Abort, alloc: Global, row: &Row) -> bool {
+    let (made, expected) = *row;
+    match text_of(alloc, made) {
         Some(text) => is_read_as(rt, alloc, text.as_bytes(), expected),
         None => false,
     }
+}
+
+fn rows_are_read(rt: &impl Abort, alloc: Global, rows: &[Row]) -> bool {
+    for row in rows {
+        if !row_is_read(rt, alloc, row) {
+            return false;
+        }
+    }
+    true
+}
+
+/// The example with the first place of a text changed to another.
+fn example_but(alloc: Global, from: &str, to: &str) -> Option<String> {
+    let text = example(alloc)?;
+    replaced(alloc, text.as_str(), from, to)
 }
 
 /// So many texts, each of a front, its number from 0 and a back.
@@ -24,29 +68,22 @@ fn numbered(alloc: Global, front: &str, count: usize, back: &str) -> Option<Stri
     Some(text)
 }
 
-/// A text of the example, what it is changed to (a number of letters and an end, in quotes), and what is read then.
-type NameRow = (&'static str, usize, &'static str, &'static str);
-
 /// A zone's name is a label, eight octets of `example` with its length, and the last 0: 64 octets where the label has 54.
-const NAMES: &[NameRow] = &[
-    ("\"g1\"", 32, "", "good"),
-    ("\"g1\"", 33, "", "5 bad name at group 0 name"),
-    ("\"ns2.ops.example\"", 54, ".example.", "good"),
+const NAMES: &[Row] = &[
+    (Name("\"g1\"", 32, ""), "good"),
+    (Name("\"g1\"", 33, ""), "5 bad name at group 0 name"),
+    (Name("\"ns2.ops.example\"", 54, ".example."), "good"),
     (
-        "\"ns2.ops.example\"",
-        55,
-        ".example.",
+        Name("\"ns2.ops.example\"", 55, ".example."),
         "5 bad name at zone ns 1",
     ),
-    ("\"admin.ops.example\"", 54, ".example.", "good"),
+    (Name("\"admin.ops.example\"", 54, ".example."), "good"),
     (
-        "\"cdn.example\"",
-        55,
-        ".example.",
+        Name("\"cdn.example\"", 55, ".example."),
         "5 bad name at zone apex",
     ),
-    ("\"www\"", 63, "", "good"),
-    ("\"www\"", 64, "", "5 bad name at zone services 0"),
+    (Name("\"www\"", 63, ""), "good"),
+    (Name("\"www\"", 64, ""), "5 bad name at zone services 0"),
 ];
 
 /// So many letters and an end, in quotes.
@@ -55,26 +92,14 @@ fn quoted(alloc: Global, length: usize, end: &str) -> Option<String> {
     joined(alloc, &["\"", letters.as_str(), end, "\""])
 }
 
-fn name_is_read(rt: &impl Abort, alloc: Global, row: &NameRow) -> bool {
-    let (from, length, end, expected) = row;
-    match quoted(alloc, *length, *end) {
-        Some(name) => replaced_is_read(rt, alloc, *from, name.as_str(), *expected),
-        None => false,
-    }
-}
-
-fn names_are_read(rt: &impl Abort, alloc: Global, rows: &[NameRow]) -> bool {
-    for row in rows {
-        if !name_is_read(rt, alloc, row) {
-            return false;
-        }
-    }
-    true
+fn with_name(alloc: Global, from: &str, length: usize, end: &str) -> Option<String> {
+    let name = quoted(alloc, length, end)?;
+    example_but(alloc, from, name.as_str())
 }
 
 #[test]
 fn lengths_of_names(rt: HostRuntime) {
-    assert!(rt; names_are_read(&rt, rt.alloc(), NAMES));
+    assert!(rt; rows_are_read(&rt, rt.alloc(), NAMES));
 }
 
 /// A list of texts `FRONT0` to `FRONTn`, each with the same back.
@@ -83,65 +108,32 @@ fn listed(alloc: Global, front: &str, count: usize, back: &str) -> Option<String
     joined(alloc, &["[", items.as_str(), "]"])
 }
 
-/// A list of the example, the front, the number and the back of the texts that stand in its place, and what is read then.
-type ListRow = (
-    &'static str,
-    &'static str,
-    usize,
-    &'static str,
-    &'static str,
-);
+fn with_list(alloc: Global, from: &str, front: &str, count: usize, back: &str) -> Option<String> {
+    let list = listed(alloc, front, count, back)?;
+    example_but(alloc, from, list.as_str())
+}
 
-const LISTS: &[ListRow] = &[
-    ("[\"www\"]", "\"s", 64, "\",", "good"),
+const LISTS: &[Row] = &[
+    (List("[\"www\"]", "\"s", 64, "\","), "good"),
     (
-        "[\"www\"]",
-        "\"s",
-        65,
-        "\",",
+        List("[\"www\"]", "\"s", 65, "\","),
         "17 too many at zone services",
     ),
-    ("[\"2001:db8::1\"]", "\"::", 40, "\",", "good"),
+    (List("[\"2001:db8::1\"]", "\"::", 40, "\","), "good"),
     (
-        "[\"2001:db8::1\"]",
-        "\"::",
-        41,
-        "\",",
+        List("[\"2001:db8::1\"]", "\"::", 41, "\","),
         "17 too many at node 1 aaaa",
     ),
     (
-        "[\"198.51.100.0/24\"]",
-        "\"2001:db8::",
-        50_000,
-        "/128\",",
+        List("[\"198.51.100.0/24\"]", "\"2001:db8::", 50_000, "/128\","),
         "12 bad prefix at group 1 prefixes 10000",
     ),
 ];
 
-fn list_is_read(rt: &impl Abort, alloc: Global, row: &ListRow) -> bool {
-    let (from, front, count, back, expected) = row;
-    match listed(alloc, *front, *count, *back) {
-        Some(list) => replaced_is_read(rt, alloc, *from, list.as_str(), *expected),
-        None => false,
-    }
-}
-
-fn lists_are_read(rt: &impl Abort, alloc: Global, rows: &[ListRow]) -> bool {
-    for row in rows {
-        if !list_is_read(rt, alloc, row) {
-            return false;
-        }
-    }
-    true
-}
-
 #[test]
 fn lengths_of_lists(rt: HostRuntime) {
-    assert!(rt; lists_are_read(&rt, rt.alloc(), LISTS));
+    assert!(rt; rows_are_read(&rt, rt.alloc(), LISTS));
 }
-
-/// So many of something, and what is read then.
-type CountRow = (usize, &'static str);
 
 /// A topology of one pool, which has so many addresses.
 fn with_hosts(alloc: Global, count: usize) -> Option<String> {
@@ -156,28 +148,14 @@ const POOL: &str = "[[node]]\nname = \"A\"\ncapacity = 10\npool = true\na = ";
 const ITS_GROUP: &str =
     "\n[[group]]\nname = \"g\"\ndemand = 4\npools = [\"A\"]\nscores = [1]\nprefixes = [\"0.0.0.0/0\", \"::/0\"]\n";
 
-const HOSTS: &[CountRow] = &[(40, "good"), (41, "17 too many at node 0 a")];
-
-fn host_is_read(rt: &impl Abort, alloc: Global, row: &CountRow) -> bool {
-    let (count, expected) = row;
-    match with_hosts(alloc, *count) {
-        Some(text) => is_read_as(rt, alloc, text.as_bytes(), *expected),
-        None => false,
-    }
-}
-
-fn hosts_are_read(rt: &impl Abort, alloc: Global, rows: &[CountRow]) -> bool {
-    for row in rows {
-        if !host_is_read(rt, alloc, row) {
-            return false;
-        }
-    }
-    true
-}
+const HOSTS: &[Row] = &[
+    (Hosted(40), "good"),
+    (Hosted(41), "17 too many at node 0 a"),
+];
 
 #[test]
 fn addresses_of_a_pool(rt: HostRuntime) {
-    assert!(rt; hosts_are_read(&rt, rt.alloc(), HOSTS));
+    assert!(rt; rows_are_read(&rt, rt.alloc(), HOSTS));
 }
 
 /// A node under the one of the number before.
@@ -202,32 +180,15 @@ fn with_path(alloc: Global, length: usize) -> Option<String> {
     joined(alloc, &[ZONE, path.as_str(), NODES, GROUPS])
 }
 
-const PATHS: &[CountRow] = &[
-    (8, "good"),
-    (9, "9 too deep at node 8 parent"),
-    (10, "9 too deep at node 8 parent"),
+const PATHS: &[Row] = &[
+    (Chain(8), "good"),
+    (Chain(9), "9 too deep at node 8 parent"),
+    (Chain(10), "9 too deep at node 8 parent"),
 ];
-
-fn path_is_read(rt: &impl Abort, alloc: Global, row: &CountRow) -> bool {
-    let (count, expected) = row;
-    match with_path(alloc, *count) {
-        Some(text) => is_read_as(rt, alloc, text.as_bytes(), *expected),
-        None => false,
-    }
-}
-
-fn paths_are_read(rt: &impl Abort, alloc: Global, rows: &[CountRow]) -> bool {
-    for row in rows {
-        if !path_is_read(rt, alloc, row) {
-            return false;
-        }
-    }
-    true
-}
 
 #[test]
 fn depth(rt: HostRuntime) {
-    assert!(rt; paths_are_read(&rt, rt.alloc(), PATHS));
+    assert!(rt; rows_are_read(&rt, rt.alloc(), PATHS));
 }
 
 /// So many nodes, each a pool.
@@ -255,32 +216,15 @@ fn with_pools(alloc: Global, count: usize) -> Option<String> {
     )
 }
 
-const POOLS: &[CountRow] = &[
-    (1, "good"),
-    (16, "good"),
-    (17, "15 list shape at group 2 pools"),
+const POOLS: &[Row] = &[
+    (Asking(1), "good"),
+    (Asking(16), "good"),
+    (Asking(17), "15 list shape at group 2 pools"),
 ];
-
-fn pool_is_read(rt: &impl Abort, alloc: Global, row: &CountRow) -> bool {
-    let (count, expected) = row;
-    match with_pools(alloc, *count) {
-        Some(text) => is_read_as(rt, alloc, text.as_bytes(), *expected),
-        None => false,
-    }
-}
-
-fn pools_are_read(rt: &impl Abort, alloc: Global, rows: &[CountRow]) -> bool {
-    for row in rows {
-        if !pool_is_read(rt, alloc, row) {
-            return false;
-        }
-    }
-    true
-}
 
 #[test]
 fn pools_in_a_list(rt: HostRuntime) {
-    assert!(rt; pools_are_read(&rt, rt.alloc(), POOLS));
+    assert!(rt; rows_are_read(&rt, rt.alloc(), POOLS));
 }
 
 /// The example with so many more nodes and groups, and classes.
@@ -306,36 +250,16 @@ fn with_many(alloc: Global, nodes: usize, groups: usize, classes: &str) -> Optio
 const CLASS: &str =
     "[[class]]\nname = \"c\"\ngroup = \"g1\"\nservice = \"www\"\ndemand = 1\npools = [\"A\"]\nscores = [1]\n";
 
-/// So many more nodes and groups, the classes, and what is read then.
-type ManyRow = (usize, usize, &'static str, &'static str);
-
-const MANY: &[ManyRow] = &[
-    (8_189, 0, "", "good"),
-    (8_190, 0, "", "17 too many at top node"),
-    (0, 65_535, "", "17 too many at top group"),
-    (0, 65_534, CLASS, "17 too many at top class"),
+const MANY: &[Row] = &[
+    (More(8_189, 0, ""), "good"),
+    (More(8_190, 0, ""), "17 too many at top node"),
+    (More(0, 65_535, ""), "17 too many at top group"),
+    (More(0, 65_534, CLASS), "17 too many at top class"),
 ];
-
-fn is_read_with(rt: &impl Abort, alloc: Global, row: &ManyRow) -> bool {
-    let (nodes, groups, classes, expected) = row;
-    match with_many(alloc, *nodes, *groups, *classes) {
-        Some(text) => is_read_as(rt, alloc, text.as_bytes(), *expected),
-        None => false,
-    }
-}
-
-fn many_are_read(rt: &impl Abort, alloc: Global, rows: &[ManyRow]) -> bool {
-    for row in rows {
-        if !is_read_with(rt, alloc, row) {
-            return false;
-        }
-    }
-    true
-}
 
 #[test]
 fn many_nodes_and_groups(rt: HostRuntime) {
-    assert!(rt; many_are_read(&rt, rt.alloc(), MANY));
+    assert!(rt; rows_are_read(&rt, rt.alloc(), MANY));
 }
 
 /// A prefix of one address, and a comma.
@@ -356,40 +280,17 @@ fn addresses(alloc: Global, count: usize) -> Option<String> {
 
 /// The example with so many prefixes in place of the last one.
 fn with_addresses(alloc: Global, count: usize) -> Option<String> {
-    let text = example(alloc)?;
     let addresses = addresses(alloc, count)?;
-    replaced(
-        alloc,
-        text.as_str(),
-        "\"198.51.100.0/24\"",
-        addresses.as_str(),
-    )
+    example_but(alloc, "\"198.51.100.0/24\"", addresses.as_str())
 }
 
 /// The example has two prefixes beside these.
-const PREFIXES: &[CountRow] = &[
-    (262_142, "good"),
-    (262_143, "17 too many at group 1 prefixes"),
+const PREFIXES: &[Row] = &[
+    (Prefixed(262_142), "good"),
+    (Prefixed(262_143), "17 too many at group 1 prefixes"),
 ];
-
-fn total_is_read(rt: &impl Abort, alloc: Global, row: &CountRow) -> bool {
-    let (count, expected) = row;
-    match with_addresses(alloc, *count) {
-        Some(text) => is_read_as(rt, alloc, text.as_bytes(), *expected),
-        None => false,
-    }
-}
-
-fn totals_are_read(rt: &impl Abort, alloc: Global, rows: &[CountRow]) -> bool {
-    for row in rows {
-        if !total_is_read(rt, alloc, row) {
-            return false;
-        }
-    }
-    true
-}
 
 #[test]
 fn total_of_prefixes(rt: HostRuntime) {
-    assert!(rt; totals_are_read(&rt, rt.alloc(), PREFIXES));
+    assert!(rt; rows_are_read(&rt, rt.alloc(), PREFIXES));
 }
